@@ -1,0 +1,8 @@
+-- The rules of document 01, as definitions: read them in this order.
+pub mod Lists
+pub mod Picture
+pub mod Graph
+pub mod Describes
+pub mod Face
+pub mod Records
+pub mod Calls
