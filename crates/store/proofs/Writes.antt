@@ -5,7 +5,7 @@ use mathlib.Core.Logic.{_⊎_, inl, inr, ⊎-elim}
 use mathlib.Core.List.{List, [], _∷_, _++_}
 use native.Mathlib.Omega.{arith}
 use lib.ListN.{length, getD, set, replicate, drop, length-set, length-replicate, getD-replicate}
-use lib.Seq.{sets, length-sets, sets-eq, set-comm, set-set, getD-set-same, getD-set-other}
+use lib.Seq.{sets, length-sets, sets-eq, set-comm, set-set, set-out, getD-set-same, getD-set-other}
 use Rattle.store.specs.Words.{Kept}
 
 pub sets-append : (l : List ℕ) (i : ℕ) (vs us : List ℕ) → sets l i (vs ++ us) ≡ sets (sets l i vs) (i + length vs) us
@@ -25,6 +25,11 @@ sets-more l m m′ i vs us ws e f g q = let z : i ≡ 0 + length vs = omega arit
 -- at the front of a store that has room
 pub sets-front : (l vs : List ℕ) → length vs ≤ length l → sets l 0 vs ≡ vs ++ drop (length vs) l
 sets-front l vs h = let e : 0 + length vs ≡ length vs = omega arith in rw e at (sets-eq vs l 0 (omega arith))
+
+-- past the end nothing changes
+pub sets-out : (l : List ℕ) (i : ℕ) (vs : List ℕ) → length l ≤ i → sets l i vs ≡ l
+sets-out l i [] h = refl
+sets-out l i (v ∷ vs) h = rw (set-out l i v h) (sets-out l (suc i) vs (omega arith))
 
 -- READ BACK
 

@@ -1,5 +1,6 @@
 // Lent stores of words: what lies past the end is read as 0, and a write there changes nothing.
 ghost use mathlib.Core.Path.{_≡_};
+ghost use mathlib.Core.List.{[], _∷_};
 ghost use Prim.Native.Nat.{_+_, _<_, _≤_};
 ghost use lib.ListN.{length, getD, set, replicate};
 ghost use lib.Seq.{sets};
@@ -25,6 +26,26 @@ pub fn put(words: &mut [u32], i: usize, v: u32)
 {
     if i < words.len() {
         words[i] = v;
+    }
+}
+
+// Two words from i on.
+pub fn put2(words: &mut [u32], i: usize, a: u32, b: u32)
+    ensures { λ _. ⌜ now (words .exit) ≡ sets (now (words .entry)) i (a ∷ b ∷ []) ⌝ }
+{
+    if i < words.len() {
+        words[i] = a;
+        put(words, i + 1, b);
+    }
+}
+
+// Four words from i on.
+pub fn put4(words: &mut [u32], i: usize, a: u32, b: u32, c: u32, d: u32)
+    ensures { λ _. ⌜ now (words .exit) ≡ sets (now (words .entry)) i (a ∷ b ∷ c ∷ d ∷ []) ⌝ }
+{
+    if i < words.len() {
+        put2(words, i, a, b);
+        put2(words, i + 2, c, d);
     }
 }
 

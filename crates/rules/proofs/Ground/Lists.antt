@@ -1,7 +1,7 @@
 -- Lists: members of `keep`, `flat` and `upto`, and lists without repetition.
 use Prim.Native.Nat.{ℕ, zero, suc, _+_, _<_, _≤_}
 use mathlib.Core.Bool.{Bool, true, false, false≢true, true≢false}
-use mathlib.Core.Path.{_≡_, refl, sym, ap, _∙_, subst}
+use mathlib.Core.Path.{_≡_, refl, sym, ap, ap₂, _∙_, subst}
 use mathlib.Core.Logic.{_⊎_, inl, inr, ⊎-elim}
 use mathlib.Core.List.{List, [], _∷_, _++_, map, append-nil, append-assoc, List·Memᴰ as In, List·Memᴰ·head as here, List·Memᴰ·tail as there, List·Memᴰ·not-nil as not-nil, Memᴰ·append-left as in-left, Memᴰ·append-right as in-right, List·Memᴰ·append-cases as in-cases, Memᴰ·cast as in-cast, Memᴰ·map as in-map, Memᴰ·of-map as of-map}
 use native.Mathlib.Omega.{arith}
@@ -307,6 +307,22 @@ module _ {A : Type 0} where
   keep-some t (b ∷ l) a (here e) p = omega (arith, length-keep t b l, ap one (ap t (sym e) ∙ p))
   keep-some t (b ∷ l) a (there i) p = omega (arith, length-keep t b l, keep-some t l a i p)
 
+  pub keep-yes : (t : A → Bool) (a : A) (l : List A) → t a ≡ true → keep t (a ∷ l) ≡ a ∷ keep t l
+  unfolding keep
+  keep-yes t a l e = go (t a) e
+    where
+      go : (b : Bool) → b ≡ true → _≡_ {A = List A} (elim b [ true ↦ a ∷ keep t l | false ↦ keep t l ]) (a ∷ keep t l)
+      go true e = refl
+      go false e = absurd (false≢true e)
+
+  pub keep-no : (t : A → Bool) (a : A) (l : List A) → t a ≡ false → keep t (a ∷ l) ≡ keep t l
+  unfolding keep
+  keep-no t a l e = go (t a) e
+    where
+      go : (b : Bool) → b ≡ false → _≡_ {A = List A} (elim b [ true ↦ a ∷ keep t l | false ↦ keep t l ]) (keep t l)
+      go true e = absurd (true≢false e)
+      go false e = refl
+
   pub keep-append : (t : A → Bool) (l m : List A) → keep t (l ++ m) ≡ keep t l ++ keep t m
   unfolding keep
   keep-append t [] m = refl
@@ -364,6 +380,10 @@ pub at-map : {A B : Type 0} (f : A → B) (l : List A) (i : ℕ) (a : A) (b : B)
 at-map f [] i a b h = absurd (not-suc-le-zero h)
 at-map f (c ∷ l) zero a b h = refl
 at-map f (c ∷ l) (suc i) a b h = at-map f l i a b (le-of-suc-le-suc h)
+
+pub map-same : {A B : Type 0} (f g : A → B) (l : List A) → ((a : A) → In a l → f a ≡ g a) → map f l ≡ map g l
+map-same f g [] e = refl
+map-same f g (a ∷ l) e = ap₂ (λ b m. b ∷ m) (e a (here refl)) (map-same f g l (λ b i. e b (there i)))
 
 pub at-upto : (n a i d : ℕ) → i < n → getD (upto n a) i d ≡ a + i
 unfolding upto

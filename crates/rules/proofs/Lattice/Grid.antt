@@ -33,33 +33,37 @@ in-rows m (suc n) y i j q l k = go (ℕ-discrete j y) (λ l. in-rows m n (suc y)
     go (yes e) f = rw e (in-left (rows m n (suc y)) (in-row m 0 y i (omega arith) (omega arith)))
     go (no n) f = in-right (row m 0 y) (f (omega arith))
 
--- no corner twice
-row-at : (n x y : ℕ) (c : ℕ × ℕ) → In c (row n x y) → (x ≤ c .0) × (c .1 ≡ y)
+row-in : (n x y : ℕ) (c : ℕ × ℕ) → In c (row n x y) → (x ≤ c .0) × (c .0 < x + n) × (c .1 ≡ y)
 unfolding row
-row-at zero x y c i = absurd (not-nil i)
-row-at (suc n) x y c (here e) = let p = ap (λ c. c .0) e in (omega arith, ap (λ c. c .1) e)
-row-at (suc n) x y c (there i) = let r = row-at n (suc x) y c i in (omega arith, r .1)
+row-in zero x y c i = absurd (not-nil i)
+row-in (suc n) x y c (here e) = let p = ap (λ c. c .0) e in (omega arith, omega arith, ap (λ c. c .1) e)
+row-in (suc n) x y c (there i) = let r = row-in n (suc x) y c i in (omega arith, omega arith, r .2)
 
+rows-in : (m n y : ℕ) (c : ℕ × ℕ) → In c (rows m n y) → (c .0 < m) × (y ≤ c .1) × (c .1 < y + n)
+unfolding rows
+rows-in m zero y c i = absurd (not-nil i)
+rows-in m (suc n) y c i =
+    ⊎-elim
+    (λ (i : In c (row m 0 y)). let r = row-in m 0 y c i in (omega arith, omega arith, omega arith))
+    (λ (i : In c (rows m n (suc y))). let r = rows-in m n (suc y) c i in (omega arith, omega arith, omega arith))
+    (in-cases (row m 0 y) i)
+
+pub corners-in : (P : Picture) (c : ℕ × ℕ) → In c (corners P) → (c .0 ≤ P .w) × (c .1 ≤ P .h)
+unfolding corners
+corners-in P c i = let r = rows-in (suc (P .w)) (suc (P .h)) 0 c i in (omega arith, omega arith)
+
+-- no corner twice
 row-distinct : (n x y : ℕ) → Distinct (row n x y)
 unfolding row
 row-distinct zero x y = tt
-row-distinct (suc n) x y = (λ i. let r = row-at n (suc x) y (x, y) i in omega arith, row-distinct n (suc x) y)
-
-rows-at : (m n y : ℕ) (c : ℕ × ℕ) → In c (rows m n y) → y ≤ c .1
-unfolding rows
-rows-at m zero y c i = absurd (not-nil i)
-rows-at m (suc n) y c i =
-    ⊎-elim
-    (λ (i : In c (row m 0 y)). let r = row-at m 0 y c i in omega arith)
-    (λ (i : In c (rows m n (suc y))). let r = rows-at m n (suc y) c i in omega arith)
-    (in-cases (row m 0 y) i)
+row-distinct (suc n) x y = (λ i. let r = row-in n (suc x) y (x, y) i in omega arith, row-distinct n (suc x) y)
 
 rows-distinct : (m n y : ℕ) → Distinct (rows m n y)
 unfolding rows
 rows-distinct m zero y = tt
 rows-distinct m (suc n) y =
     distinct-append (row m 0 y) (rows m n (suc y)) (row-distinct m 0 y) (rows-distinct m n (suc y))
-    (λ c i j. let r = row-at m 0 y c i in let s = rows-at m n (suc y) c j in omega arith)
+    (λ c i j. let r = row-in m 0 y c i in let s = rows-in m n (suc y) c j in omega arith)
 
 pub corners-distinct : (P : Picture) → Distinct (corners P)
 unfolding corners

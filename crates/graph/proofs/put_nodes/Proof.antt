@@ -1,0 +1,65 @@
+-- `graph::put_nodes` meets its contract.
+use borrow.Author.Needs.{needs}
+use Prim.Native.Nat.{_-_, _≤_}
+use mathlib.Core.List.{[]}
+use mathlib.Core.Path.{_≡_, refl, _∙_}
+use native.Mathlib.Omega.{arith}
+use lib.ListN.{length}
+use lib.Seq.{sets}
+use Rattle.rules.specs.Records.{nodeWords}
+use Rattle.graph.specs.Planes.{cornersIn}
+use Rattle.graph.proofs.Numbering.{records-none, records-more}
+use Rattle.graph.proofs.put_nodes.Statement.{statement}
+use Rattle.graph.proofs.put_nodes.Tie as tie
+
+abbrev Inv-loop : tie.InvT-loop
+Inv-loop s work nodes₀ n i₀ nodes i = (i ≤ n) × (length nodes ≡ length nodes₀) × (nodes ≡ sets nodes₀ 0 (nodeWords [] (cornersIn s work i)))
+
+abbrev μ-loop : tie.MeasureT-loop
+μ-loop s work nodes₀ n i₀ nodes i = n - i
+
+loop-holds : tie.Need-loop-holds Inv-loop μ-loop
+loop-holds c = let a = c .before .before .args in (omega arith, refl, records-none (a .s) (a .work .now) (a .nodes .now))
+
+node-corner-requires : tie.Need-node-corner-requires Inv-loop μ-loop
+node-corner-requires c κs = let start = c .before .before .before .before in (start .pre .0, (omega (arith, c .loop-test .taken), start .pre .1 .1))
+
+put-node-requires : tie.Need-put-node-requires Inv-loop μ-loop
+put-node-requires c κs = search needs
+
+add-i : tie.Need-add-i Inv-loop μ-loop
+add-i c = omega (arith, c .before .before .before .before .before .loop-test .taken)
+
+loop-less : tie.Need-loop-less Inv-loop μ-loop
+loop-less c = omega (arith, c .before .before .before .before .before .loop-test .taken)
+
+loop-again : tie.Need-loop-again Inv-loop μ-loop
+loop-again c =
+    let a = c .before .before .before .before .before .before .before .before .before .args in
+    let l = c .before .before .before .before .before .before .loop in
+    let p = c .before .before .before .before .node-corner .ensures in (
+      omega (arith, c .before .before .before .before .before .loop-test .taken),
+      c .before .before .put-node .kept .0 ∙ l .inv .1,
+      records-more (a .s) (a .work .now) (a .nodes .now) _ _ (l .i) _ _ (p .0) (p .1) (l .inv .2) (c .before .before .put-node .ensures),
+    )
+
+same-length : tie.Need-same-length Inv-loop μ-loop
+same-length c = c .before .loop .inv .1
+
+returns : tie.Need-returns Inv-loop μ-loop
+returns c = let e : c .before .loop .i ≡ c .before .before .before .before .args .n = omega arith in c .before .loop .inv .2 ∙ rw e
+
+pub put-nodes-spec : {M : Type 1} → statement M
+put-nodes-spec =
+    tie.close
+    (tie.spec
+    Inv-loop
+    μ-loop
+    loop-holds
+    node-corner-requires
+    put-node-requires
+    add-i
+    loop-less
+    loop-again
+    same-length
+    returns)

@@ -1,0 +1,88 @@
+-- `graph::trace` meets its contract.
+use mathlib.Core.List.{[]}
+use mathlib.Core.Path.{_∙_}
+use native.Mathlib.Omega.{arith}
+use Rattle.graph.proofs.Numbering.{nodes-few}
+use Rattle.graph.proofs.Whole.{second, noded-cleared, first-stage, last-stage}
+use borrow.Author.Needs.{needs}
+use Rattle.graph.proofs.trace.Statement.{statement}
+use Rattle.graph.proofs.trace.Tie as tie
+
+plane-requires : tie.Need-plane-requires
+plane-requires c κs = search needs
+
+mul-fill : tie.Need-mul-fill
+mul-fill c = search needs
+
+fill-requires : tie.Need-fill-requires
+fill-requires c κs = search needs
+
+put-nodes-requires : tie.Need-put-nodes-requires
+put-nodes-requires c κs =
+    let start = c .before .before .before .before .before .before .before .before .before .before .before .before in
+    let a = start .args in
+    let noded = noded-cleared (a .s) (a .labels .now) (a .work .now) _ (a .n) _ (start .pre .1) (c .before .before .before .before .before .plane .ensures .0) (c .before .before .before .before .fill .ensures) in
+    (record { wide = start .pre .0 .wide; high = start .pre .0 .high }, (omega (arith, noded .count, nodes-few (a .s) (a .labels .now)), noded .planes))
+
+trace-segments-requires : tie.Need-trace-segments-requires
+trace-segments-requires c κs =
+    let start = c .before .before .before .before .before .before .before .before .before .before .before .before .before .before .before .before .before .before .before in
+    let a = start .args in (
+      start .pre .0,
+      record {
+        o = _;
+        rest = second (a .s) (a .labels .now);
+        now = first-stage (a .s) (a .labels .now) (a .work .now) _ (a .n) _ (start .pre .1) (c .before .before .before .before .before .before .before .before .before .before .before .before .plane .ensures .0) (c .before .before .before .before .before .before .before .before .before .before .before .fill .ensures) _ (a .segments .now) (a .points .now);
+      },
+    )
+
+trace-rings-requires : tie.Need-trace-rings-requires
+trace-rings-requires c κs =
+    let start = c .before .before .before .before .before .before .before .before .before .before .before .before .before .before .before .before .before .before .before .before .before .before .before .before .before .before .before .before .before .before .before .before in
+    let a = start .args in (
+      start .pre .0,
+      record {
+        o = _;
+        rest = [];
+        now = c .before .before .before .before .before .before .before .before .before .before .before .before .trace-segments .ensures _ (second (a .s) (a .labels .now))
+            (first-stage (a .s) (a .labels .now) (a .work .now) _ (a .n) _ (start .pre .1) (c .before .before .before .before .before .before .before .before .before .before .before .before .before .before .before .before .before .before .before .before .before .before .before .before .before .plane .ensures .0) (c .before .before .before .before .before .before .before .before .before .before .before .before .before .before .before .before .before .before .before .before .before .before .before .before .fill .ensures) _ (a .segments .now) (a .points .now));
+      },
+    )
+
+same-length : tie.Need-same-length
+same-length c = c .before .before .before .before .before .before .before .before .trace-rings .kept .1 .1 .0 ∙ c .before .before .before .before .before .before .before .before .before .before .before .before .before .before .before .before .before .before .before .before .before .trace-segments .kept .1 .1 .0 ∙ c .before .before .before .before .before .before .before .before .before .before .before .before .before .before .before .before .before .before .before .before .before .before .before .before .before .before .before .before .before .before .before .before .before .fill .kept .0
+
+same-length-2 : tie.Need-same-length-2
+same-length-2 c = search needs
+
+same-length-3 : tie.Need-same-length-3
+same-length-3 c = search needs
+
+same-length-4 : tie.Need-same-length-4
+same-length-4 c = search needs
+
+returns : tie.Need-returns
+returns c =
+    let start = c .before .before .before .before .before .before .before .before .before .before .before .before .before .before .before .before .before .before .before .before .before .before .before .before .before .before .before .before .before .before .before .before .before .before .before .before .before .before .before .before .before in
+    let a = start .args in
+    let fill = c .before .before .before .before .before .before .before .before .before .before .before .before .before .before .before .before .before .before .before .before .before .before .before .before .before .before .before .before .before .before .before .before .before .fill .ensures in
+    let plane = c .before .before .before .before .before .before .before .before .before .before .before .before .before .before .before .before .before .before .before .before .before .before .before .before .before .before .before .before .before .before .before .before .before .before .plane .ensures .0 in
+    let first = first-stage (a .s) (a .labels .now) (a .work .now) _ (a .n) _ (start .pre .1) plane fill _ (a .segments .now) (a .points .now) in
+    last-stage (a .s) (a .labels .now) (a .work .now) _ (a .n) _ (start .pre .1) plane fill _ (a .segments .now) (a .points .now) (a .nodes .now) _ _ _ _ _ (c .before .before .before .before .before .before .before .before .before .before .before .before .before .before .before .before .before .before .before .before .before .before .before .before .before .before .before .before .put-nodes .ensures)
+    (c .before .before .before .before .before .before .before .before .trace-rings .ensures _ [] (c .before .before .before .before .before .before .before .before .before .before .before .before .before .before .before .before .before .before .before .before .before .trace-segments .ensures _ (second (a .s) (a .labels .now)) first))
+
+pub trace-spec : {M : Type 1} → statement M
+trace-spec =
+    tie.close
+    (tie.spec
+    plane-requires
+    mul-fill
+    fill-requires
+    put-nodes-requires
+    trace-segments-requires
+    trace-rings-requires
+    same-length
+    same-length-2
+    same-length-3
+    same-length-4
+    returns)

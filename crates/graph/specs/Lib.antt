@@ -1,0 +1,7 @@
+pub mod Planes
+pub mod Walk
+pub mod Words
+pub mod Todo
+pub mod Nodes
+pub mod Stage
+pub mod Extracted

@@ -1,0 +1,5 @@
+pub mod Size
+pub mod Planes
+pub mod Dirs
+pub mod Around
+pub mod Walker
