@@ -1,0 +1,4 @@
+pub mod Checks
+pub mod Outcomes
+pub mod Steps
+pub mod Calls

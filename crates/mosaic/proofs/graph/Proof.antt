@@ -1,0 +1,85 @@
+-- `mosaic::graph` meets its contract.
+use mathlib.Core.Path.{refl, sym, ap, _∙_}
+use native.Mathlib.Omega.{arith}
+use Rattle.rules.specs.Calls.{graphList, refused}
+use Rattle.mosaic.specs.Outcome.{mapOf}
+use Rattle.mosaic.proofs.Calls.{map-passed, planes-passed, graph-roomy, graph-refused, graph-answered}
+use borrow.Author.Needs.{needs}
+use Rattle.mosaic.proofs.graph.Statement.{statement}
+use Rattle.mosaic.proofs.graph.Tie as tie
+
+check-map-requires : tie.Need-check-map-requires
+check-map-requires c κs = search needs
+
+refuse-requires : tie.Need-refuse-requires
+refuse-requires c κs = search needs
+
+same-length : tie.Need-same-length
+same-length c = search needs
+
+returns : tie.Need-returns
+returns c =
+    let a = c .before .before .before .before .before .before .before .before .before .args in
+    let early = c .before .before .check-map .ensures in
+    graph-refused (a .s) (a .labels .now) (a .work .now) (a .nodes .now) (a .segments .now) (a .points .now) _ (λ z. c .before .if1 .taken (early ∙ z)) (c .refuse .ensures ∙ ap refused early)
+
+count-graph-requires : tie.Need-count-graph-requires
+count-graph-requires c κs =
+    let a = c .before .before .before .before .before .before .before .before .before .args in
+    let early = c .before .before .check-map .ensures in
+    (map-passed (a .s) (a .labels .now) (a .work .now) _ early (c .before .if1 .left), planes-passed (a .s) (a .labels .now) (a .work .now) _ early (c .before .if1 .left))
+
+check-graph-requires : tie.Need-check-graph-requires
+check-graph-requires c κs = search needs
+
+write-graph-requires : tie.Need-write-graph-requires
+write-graph-requires c κs =
+    let a = c .before .before .before .before .before .before .before .before .before .before .before .before .before .before .before .before .before .args in
+    let k = c .before .before .before .before .before .before .before .count-graph .ensures in
+    let number = c .before .before .before .before .check-graph .ensures (graphList (mapOf (a .s) (a .labels .now))) (a .nodes .now) (a .segments .now) (a .points .now) (k .counts) refl refl refl in
+    (map-passed (a .s) (a .labels .now) (a .work .now) _ (c .before .before .before .before .before .before .before .before .before .before .check-map .ensures) (c .before .before .before .before .before .before .before .before .before .if1 .left), (k .noded, graph-roomy (a .s) (a .labels .now) (a .nodes .now) (a .segments .now) (a .points .now) _ number))
+
+clear-requires : tie.Need-clear-requires
+clear-requires c κs =
+    let a = c .before .before .before .before .before .before .before .before .before .before .before .before .before .before .before .before .before .before .before .before .before .before .before .before .before .before .before .args in
+    let early = c .before .before .before .before .before .before .before .before .before .before .before .before .before .before .before .before .before .before .before .before .check-map .ensures in
+    let map = map-passed (a .s) (a .labels .now) (a .work .now) _ early (c .before .before .before .before .before .before .before .before .before .before .before .before .before .before .before .before .before .before .before .if1 .left) in
+    (map .wide, map .high, omega (arith, planes-passed (a .s) (a .labels .now) (a .work .now) _ early (c .before .before .before .before .before .before .before .before .before .before .before .before .before .before .before .before .before .before .before .if1 .left), c .before .before .before .before .before .before .before .before .before .before .before .before .before .before .before .before .before .count-graph .ensures .kept .long, c .before .before .before .before .before .before .before .before .before .write-graph .ensures .kept .long))
+
+same-length-2 : tie.Need-same-length-2
+same-length-2 c = search needs
+
+same-length-3 : tie.Need-same-length-3
+same-length-3 c = search needs
+
+same-length-4 : tie.Need-same-length-4
+same-length-4 c = search needs
+
+same-length-5 : tie.Need-same-length-5
+same-length-5 c = search needs
+
+returns-2 : tie.Need-returns-2
+returns-2 c =
+    let a = c .before .before .before .before .before .before .before .before .before .before .before .before .before .before .before .before .before .before .before .before .before .before .before .before .before .before .before .before .before .before .args in
+    let k = c .before .before .before .before .before .before .before .before .before .before .before .before .before .before .before .before .before .before .before .before .count-graph .ensures in
+    let number = c .before .before .before .before .before .before .before .before .before .before .before .before .before .before .before .before .before .check-graph .ensures (graphList (mapOf (a .s) (a .labels .now))) (a .nodes .now) (a .segments .now) (a .points .now) (k .counts) refl refl refl in
+    graph-answered (a .s) (a .labels .now) (a .work .now) (a .nodes .now) (a .segments .now) (a .points .now) _ _ _ _ _ _ _ _
+    (sym (c .before .before .before .before .before .before .before .before .before .before .before .before .before .before .before .before .before .before .before .before .before .before .before .check-map .ensures) ∙ c .before .before .before .before .before .before .before .before .before .before .before .before .before .before .before .before .before .before .before .before .before .before .if1 .left) k number (c .before .before .before .before .before .before .before .before .before .before .before .before .write-graph .ensures) (c .before .before .clear .ensures)
+
+pub graph-spec : {M : Type 1} → statement M
+graph-spec =
+    tie.close
+    (tie.spec
+    check-map-requires
+    refuse-requires
+    same-length
+    returns
+    count-graph-requires
+    check-graph-requires
+    write-graph-requires
+    clear-requires
+    same-length-2
+    same-length-3
+    same-length-4
+    same-length-5
+    returns-2)

@@ -1,0 +1,38 @@
+-- `mosaic::write_graph` meets its contract.
+use Rattle.mosaic.proofs.Steps.{graph-written, graph-left}
+use borrow.Author.Needs.{needs}
+use Rattle.mosaic.proofs.write_graph.Statement.{statement}
+use Rattle.mosaic.proofs.write_graph.Tie as tie
+
+trace-requires : tie.Need-trace-requires
+trace-requires c κs = search needs
+
+same-length : tie.Need-same-length
+same-length c = search needs
+
+same-length-2 : tie.Need-same-length-2
+same-length-2 c = search needs
+
+same-length-3 : tie.Need-same-length-3
+same-length-3 c = search needs
+
+same-length-4 : tie.Need-same-length-4
+same-length-4 c = search needs
+
+returns : tie.Need-returns
+returns c = let start = c .before .before .before .before .before .before .before .before .before .before .before .before .before .before .before .before .before .before .before in graph-written (c .before .before .before .before .before .before .before .before .before .before .before .before .before .if1 .taken) (start .pre .1 .1 .0) (start .pre .1 .1 .1 .0) (start .pre .1 .1 .1 .1) (c .before .before .before .before .before .before .before .before .trace .ensures)
+
+returns-2 : tie.Need-returns-2
+returns-2 c = graph-left (c .if1 .left)
+
+pub write-graph-spec : {M : Type 1} → statement M
+write-graph-spec =
+    tie.close
+    (tie.spec
+    trace-requires
+    same-length
+    same-length-2
+    same-length-3
+    same-length-4
+    returns
+    returns-2)

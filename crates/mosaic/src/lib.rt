@@ -1,0 +1,153 @@
+// The public calls: every map and every lent store is answered.
+use graph::Counts;
+use lattice::Size;
+ghost use mathlib.Core.Path.{_≡_};
+ghost use mathlib.Core.List.{[], _∷_};
+ghost use Prim.Native.Nat.{_*_, _≤_};
+ghost use lib.ListN.{length, replicate};
+ghost use lib.Seq.{sets};
+ghost use Rattle.rules.specs.Calls.{mapChecks, graphList, firstHit, refused, graph as graphOf};
+ghost use Rattle.lattice.specs.Size.{Map};
+ghost use Rattle.lattice.specs.Planes.{plane};
+ghost use Rattle.graph.specs.Nodes.{Noded};
+ghost use Rattle.mosaic.specs.Outcome.{mapOf, answerOf, outcome};
+ghost use Rattle.mosaic.specs.Counted.{GraphRoom};
+ghost use Rattle.mosaic.specs.Steps.{GraphCounted, Roomy, GraphWritten};
+
+// The number of document 01, then the seven counts.
+pub struct Answer {
+    pub number: u32,
+    pub nodes: u32,
+    pub segments: u32,
+    pub points: u32,
+    pub references: u32,
+    pub contours: u32,
+    pub faces: u32,
+    pub steps: u32,
+}
+
+// The answer to a map that was not looked at.
+fn refuse(number: u32) -> Answer
+    ensures { λ r. ⌜ answerOf r ≡ refused number ⌝ }
+{
+    Answer {
+        number,
+        nodes: 0,
+        segments: 0,
+        points: 0,
+        references: 0,
+        contours: 0,
+        faces: 0,
+        steps: 0,
+    }
+}
+
+// CHECKS, each with the number of the first that hits, or 0.
+
+// Of the map and the work store: 1 to 3.
+fn check_map(s: Size, labels: &[u32], work: &[u32]) -> u32
+    ensures { λ r. ⌜ r ≡ firstHit (mapChecks (mapOf s (now (labels .entry))) (now (work .entry))) ⌝ }
+{
+    if 16384 < s.width {
+        return 1;
+    }
+    if 16384 < s.height {
+        return 1;
+    }
+    if labels.len() != (s.width as usize) * (s.height as usize) {
+        return 2;
+    }
+    if work.len() < 8 * lattice::plane(s) {
+        return 3;
+    }
+    0
+}
+
+// Of the words lent for nodes, segments and points: 4 to 6.
+fn check_graph(c: Counts, nodes: usize, segments: usize, points: usize) -> u32
+    ensures { λ r. ⌜ GraphRoom c nodes segments points r ⌝ }
+{
+    if nodes / 6 < c.nodes as usize {
+        return 4;
+    }
+    if segments / 8 < c.segments as usize {
+        return 5;
+    }
+    if points / 2 < c.points as usize {
+        return 6;
+    }
+    0
+}
+
+// STEPS
+
+// The work store's first eight planes to 0.
+fn clear(s: Size, work: &mut [u32])
+    requires { ⌜ (s .width ≤ 16384) × (s .height ≤ 16384) × (8 * plane (s .width) (s .height) ≤ length (now work)) ⌝ }
+    ensures { λ _. ⌜ now (work .exit) ≡ sets (now (work .entry)) 0 (replicate (8 * plane (s .width) (s .height)) 0) ⌝ }
+{
+    store::fill(work, 0, 8 * lattice::plane(s), 0);
+}
+
+// The graph's counts, without a word written.
+fn count_graph(s: Size, labels: &[u32], work: &mut [u32]) -> Counts
+    requires { ⌜ Map s (now labels) ⌝ ∗ ⌜ 8 * plane (s .width) (s .height) ≤ length (now work) ⌝ }
+    ensures { λ r. ⌜ GraphCounted s (now (labels .entry)) (now (work .entry)) (now (work .exit)) r ⌝ }
+{
+    let mut nodes = [0u32; 0];
+    let mut segments = [0u32; 0];
+    let mut points = [0u32; 0];
+    graph::extract(s, labels, work, &mut nodes, &mut segments, &mut points)
+}
+
+// The graph into its stores, where the number says that they have room.
+fn write_graph(
+    s: Size,
+    labels: &[u32],
+    work: &mut [u32],
+    nodes: &mut [u32],
+    segments: &mut [u32],
+    points: &mut [u32],
+    number: u32,
+    n: u32,
+)
+    requires { ⌜ Map s (now labels) ⌝ ∗ ⌜ Noded s (now labels) (now work) n ⌝ ∗ ⌜ Roomy number (graphList (mapOf s (now labels)) .nodes) (now nodes) ⌝ ∗ ⌜ Roomy number (graphList (mapOf s (now labels)) .segments) (now segments) ⌝ ∗ ⌜ Roomy number (graphList (mapOf s (now labels)) .points) (now points) ⌝ }
+    ensures { λ _. ⌜ GraphWritten s (now (labels .entry)) number (now (work .entry)) (now (nodes .entry)) (now (segments .entry)) (now (points .entry)) (now (work .exit)) (now (nodes .exit)) (now (segments .exit)) (now (points .exit)) ⌝ }
+{
+    if number == 0 {
+        let _ = graph::trace(s, labels, work, nodes, segments, points, n);
+    }
+}
+
+// THE CALLS
+
+// Nodes, segments and points.
+pub fn graph(
+    s: Size,
+    labels: &[u32],
+    work: &mut [u32],
+    nodes: &mut [u32],
+    segments: &mut [u32],
+    points: &mut [u32],
+) -> Answer
+    ensures { λ r. ⌜ outcome r (now (work .exit) ∷ now (nodes .exit) ∷ now (segments .exit) ∷ now (points .exit) ∷ []) ≡ graphOf (mapOf s (now (labels .entry))) (now (work .entry)) (now (nodes .entry)) (now (segments .entry)) (now (points .entry)) ⌝ }
+{
+    let early = check_map(s, labels, work);
+    if early != 0 {
+        return refuse(early);
+    }
+    let c = count_graph(s, labels, work);
+    let number = check_graph(c, nodes.len(), segments.len(), points.len());
+    write_graph(s, labels, work, nodes, segments, points, number, c.nodes);
+    clear(s, work);
+    Answer {
+        number,
+        nodes: c.nodes,
+        segments: c.segments,
+        points: c.points,
+        references: 0,
+        contours: 0,
+        faces: 0,
+        steps: c.steps,
+    }
+}
