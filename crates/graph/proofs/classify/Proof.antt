@@ -36,16 +36,22 @@ classify-row-requires c κs =
     )
 
 add-y : tie.Need-add-y Inv-loop μ-loop
-add-y c = omega (arith, c .before .before .before .before .loop-test .taken, c .before .before .before .before .before .before .before .before .pre .0 .high)
+add-y c =
+    let at-loop-test = c .before .before .before .before in
+    let start = at-loop-test .before .before .before .before in
+    omega (arith, at-loop-test .loop-test .taken, start .pre .0 .high)
 
 loop-less : tie.Need-loop-less Inv-loop μ-loop
 loop-less c = omega (arith, c .before .before .before .before .loop-test .taken)
 
 loop-again : tie.Need-loop-again Inv-loop μ-loop
 loop-again c =
-    let a = c .before .before .before .before .before .before .before .before .args in
-    let l = c .before .before .before .before .before .loop in
-    let y = c .before .before .before .before .loop-test .taken in
+    let at-loop-test = c .before .before .before .before in
+    let at-loop = at-loop-test .before in
+    let start = at-loop .before .before .before in
+    let a = start .args in
+    let l = at-loop .loop in
+    let y = at-loop-test .loop-test .taken in
     let called = c .before .before .classify-row in (
       omega (arith, y),
       called .kept .1 .1 .0 ∙ l .inv .1,

@@ -21,8 +21,10 @@ number-requires c κs =
 
 add-result : tie.Need-add-result
 add-result c =
-    let start = c .before .before .before .before .before .before .before in
-    let low = start .pre .1 .1 .0 (sym (c .before .before .before .before .before .node .ensures) ∙ c .before .before .before .before .if1 .taken) in
+    let at-if1 = c .before .before .before .before in
+    let at-node = at-if1 .before in
+    let start = at-node .before .before in
+    let low = start .pre .1 .1 .0 (sym (at-node .node .ensures) ∙ at-if1 .if1 .taken) in
     omega (arith, product (start .args .s .width + 1) (start .args .s .height + 1) (omega arith) (omega arith))
 
 same-length : tie.Need-same-length
@@ -30,9 +32,11 @@ same-length c = search needs
 
 returns : tie.Need-returns
 returns c =
-    let start = c .before .before .before .before .before .before .before in
+    let at-if1 = c .before .before .before .before in
+    let at-node = at-if1 .before in
+    let start = at-node .before .before in
     let a = start .args in
-    let node = sym (c .before .before .before .before .before .node .ensures) ∙ c .before .before .before .before .if1 .taken in
+    let node = sym (at-node .node .ensures) ∙ at-if1 .if1 .taken in
     λ ls work₀ rest e o.
     rw (c .before .before .number .ensures)
     (one-node (a .s) ls work₀ rest (a .work .now) (a .n) (a .x) (a .y) o (sym (node-in (pic (a .s) ls) (a .x) (a .y)) ∙ ap nodeIn (sym e) ∙ node) (start .pre .1 .0))

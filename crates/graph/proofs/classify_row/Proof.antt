@@ -39,21 +39,29 @@ classify-corner-requires c κs =
 
 look-east-requires : tie.Need-look-east-requires Inv-loop μ-loop
 look-east-requires c κs =
-    let start = c .before .before .before .before .before .before .before .before .before in
-    let l = c .before .before .before .before .before .loop in
-    (start .pre .0, (record { across = c .before .before .before .before .loop-test .taken; down = start .pre .1 .0 }, l .inv .2))
+    let at-loop-test = c .before .before .before .before in
+    let at-loop = at-loop-test .before in
+    let start = at-loop .before .before .before .before in
+    let l = at-loop .loop in
+    (start .pre .0, (record { across = at-loop-test .loop-test .taken; down = start .pre .1 .0 }, l .inv .2))
 
 add-x : tie.Need-add-x Inv-loop μ-loop
-add-x c = omega (arith, c .before .before .before .before .before .loop-test .taken, c .before .before .before .before .before .before .before .before .before .before .pre .0 .wide)
+add-x c =
+    let at-loop-test = c .before .before .before .before .before in
+    let start = at-loop-test .before .before .before .before .before in
+    omega (arith, at-loop-test .loop-test .taken, start .pre .0 .wide)
 
 loop-less : tie.Need-loop-less Inv-loop μ-loop
 loop-less c = omega (arith, c .before .before .before .before .before .loop-test .taken)
 
 loop-again : tie.Need-loop-again Inv-loop μ-loop
 loop-again c =
-    let a = c .before .before .before .before .before .before .before .before .before .before .args in
-    let l = c .before .before .before .before .before .before .loop in
-    let x = c .before .before .before .before .before .loop-test .taken in
+    let at-loop-test = c .before .before .before .before .before in
+    let at-loop = at-loop-test .before in
+    let start = at-loop .before .before .before .before in
+    let a = start .args in
+    let l = at-loop .loop in
+    let x = at-loop-test .loop-test .taken in
     let called = c .before .before .before .classify-corner in (
       omega (arith, x),
       called .kept .1 .1 .0 ∙ l .inv .1,

@@ -28,8 +28,10 @@ same-length c = search needs
 
 returns : tie.Need-returns
 returns c =
-    let a = c .before .before .before .before .before .before .before .before .before .before .args in
-    let corner = c .before .before .before .before .before .before .put2 .ensures in
+    let at-put2 = c .before .before .before .before .before .before in
+    let start = at-put2 .before .before .before .before in
+    let a = start .args in
+    let corner = at-put2 .put2 .ensures in
     c .before .before .put4 .ensures ∙ rw corner (sym (sets-append (a .nodes .now) (6 * a .n .0) (a .x ∷ a .y ∷ []) (NONE ∷ NONE ∷ NONE ∷ NONE ∷ [])))
 
 pub put-node-spec : {M : Type 1} → statement M

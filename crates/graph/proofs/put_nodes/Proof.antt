@@ -35,10 +35,14 @@ loop-less c = omega (arith, c .before .before .before .before .before .loop-test
 
 loop-again : tie.Need-loop-again Inv-loop μ-loop
 loop-again c =
-    let a = c .before .before .before .before .before .before .before .before .before .args in
-    let l = c .before .before .before .before .before .before .loop in
-    let p = c .before .before .before .before .node-corner .ensures in (
-      omega (arith, c .before .before .before .before .before .loop-test .taken),
+    let at-node-corner = c .before .before .before .before in
+    let at-loop-test = at-node-corner .before in
+    let at-loop = at-loop-test .before in
+    let start = at-loop .before .before .before in
+    let a = start .args in
+    let l = at-loop .loop in
+    let p = at-node-corner .node-corner .ensures in (
+      omega (arith, at-loop-test .loop-test .taken),
       c .before .before .put-node .kept .0 ∙ l .inv .1,
       records-more (a .s) (a .work .now) (a .nodes .now) _ _ (l .i) _ _ (p .0) (p .1) (l .inv .2) (c .before .before .put-node .ensures),
     )

@@ -27,9 +27,11 @@ same-length c = search needs
 
 returns : tie.Need-returns
 returns c =
-    let a = c .before .before .before .before .before .before .before .before .before .before .before .before .before .before .args in
+    let at-put4 = c .before .before .before .before .before .before in
+    let start = at-put4 .before .before .before .before .before .before .before .before in
+    let a = start .args in
     let g = a .g in
-    let front = c .before .before .before .before .before .before .put4 .ensures in
+    let front = at-put4 .put4 .ensures in
     c .before .before .put42 .ensures
     ∙ rw front (sym (sets-append (a .segments .now) (8 * a .n .0) (g .first ∷ g .count ∷ g .start .0 ∷ g .end .0 ∷ []) (g .left .0 ∷ g .right .0 ∷ g .leaves ∷ g .arrives ∷ [])))
 

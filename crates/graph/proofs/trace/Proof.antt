@@ -19,38 +19,49 @@ fill-requires c κs = search needs
 
 put-nodes-requires : tie.Need-put-nodes-requires
 put-nodes-requires c κs =
-    let start = c .before .before .before .before .before .before .before .before .before .before .before .before in
+    let at-fill = c .before .before .before .before in
+    let at-plane = at-fill .before in
+    let start = at-plane .before .before .before .before .before .before .before in
     let a = start .args in
-    let noded = noded-cleared (a .s) (a .labels .now) (a .work .now) _ (a .n) _ (start .pre .1) (c .before .before .before .before .before .plane .ensures .0) (c .before .before .before .before .fill .ensures) in
+    let noded = noded-cleared (a .s) (a .labels .now) (a .work .now) _ (a .n) _ (start .pre .1) (at-plane .plane .ensures .0) (at-fill .fill .ensures) in
     (record { wide = start .pre .0 .wide; high = start .pre .0 .high }, (omega (arith, noded .count, nodes-few (a .s) (a .labels .now)), noded .planes))
 
 trace-segments-requires : tie.Need-trace-segments-requires
 trace-segments-requires c κs =
-    let start = c .before .before .before .before .before .before .before .before .before .before .before .before .before .before .before .before .before .before .before in
+    let at-fill = c .before .before .before .before .before .before .before .before .before .before .before in
+    let at-plane = at-fill .before in
+    let start = at-plane .before .before .before .before .before .before .before in
     let a = start .args in (
       start .pre .0,
       record {
         o = _;
         rest = second (a .s) (a .labels .now);
-        now = first-stage (a .s) (a .labels .now) (a .work .now) _ (a .n) _ (start .pre .1) (c .before .before .before .before .before .before .before .before .before .before .before .before .plane .ensures .0) (c .before .before .before .before .before .before .before .before .before .before .before .fill .ensures) _ (a .segments .now) (a .points .now);
+        now = first-stage (a .s) (a .labels .now) (a .work .now) _ (a .n) _ (start .pre .1) (at-plane .plane .ensures .0) (at-fill .fill .ensures) _ (a .segments .now) (a .points .now);
       },
     )
 
 trace-rings-requires : tie.Need-trace-rings-requires
 trace-rings-requires c κs =
-    let start = c .before .before .before .before .before .before .before .before .before .before .before .before .before .before .before .before .before .before .before .before .before .before .before .before .before .before .before .before .before .before .before .before in
+    let at-trace-segments = c .before .before .before .before .before .before .before .before .before .before .before .before in
+    let at-fill = at-trace-segments .before .before .before .before .before .before .before .before .before .before .before .before in
+    let at-plane = at-fill .before in
+    let start = at-plane .before .before .before .before .before .before .before in
     let a = start .args in (
       start .pre .0,
       record {
         o = _;
         rest = [];
-        now = c .before .before .before .before .before .before .before .before .before .before .before .before .trace-segments .ensures _ (second (a .s) (a .labels .now))
-            (first-stage (a .s) (a .labels .now) (a .work .now) _ (a .n) _ (start .pre .1) (c .before .before .before .before .before .before .before .before .before .before .before .before .before .before .before .before .before .before .before .before .before .before .before .before .before .plane .ensures .0) (c .before .before .before .before .before .before .before .before .before .before .before .before .before .before .before .before .before .before .before .before .before .before .before .before .fill .ensures) _ (a .segments .now) (a .points .now));
+        now = at-trace-segments .trace-segments .ensures _ (second (a .s) (a .labels .now))
+            (first-stage (a .s) (a .labels .now) (a .work .now) _ (a .n) _ (start .pre .1) (at-plane .plane .ensures .0) (at-fill .fill .ensures) _ (a .segments .now) (a .points .now));
       },
     )
 
 same-length : tie.Need-same-length
-same-length c = c .before .before .before .before .before .before .before .before .trace-rings .kept .1 .1 .0 ∙ c .before .before .before .before .before .before .before .before .before .before .before .before .before .before .before .before .before .before .before .before .before .trace-segments .kept .1 .1 .0 ∙ c .before .before .before .before .before .before .before .before .before .before .before .before .before .before .before .before .before .before .before .before .before .before .before .before .before .before .before .before .before .before .before .before .before .fill .kept .0
+same-length c =
+    let at-trace-rings = c .before .before .before .before .before .before .before .before in
+    let at-trace-segments = at-trace-rings .before .before .before .before .before .before .before .before .before .before .before .before .before in
+    let at-fill = at-trace-segments .before .before .before .before .before .before .before .before .before .before .before .before in
+    at-trace-rings .trace-rings .kept .1 .1 .0 ∙ at-trace-segments .trace-segments .kept .1 .1 .0 ∙ at-fill .fill .kept .0
 
 same-length-2 : tie.Need-same-length-2
 same-length-2 c = search needs
@@ -63,13 +74,18 @@ same-length-4 c = search needs
 
 returns : tie.Need-returns
 returns c =
-    let start = c .before .before .before .before .before .before .before .before .before .before .before .before .before .before .before .before .before .before .before .before .before .before .before .before .before .before .before .before .before .before .before .before .before .before .before .before .before .before .before .before .before in
+    let at-trace-rings = c .before .before .before .before .before .before .before .before in
+    let at-trace-segments = at-trace-rings .before .before .before .before .before .before .before .before .before .before .before .before .before in
+    let at-put-nodes = at-trace-segments .before .before .before .before .before .before .before in
+    let at-fill = at-put-nodes .before .before .before .before .before in
+    let at-plane = at-fill .before in
+    let start = at-plane .before .before .before .before .before .before .before in
     let a = start .args in
-    let fill = c .before .before .before .before .before .before .before .before .before .before .before .before .before .before .before .before .before .before .before .before .before .before .before .before .before .before .before .before .before .before .before .before .before .fill .ensures in
-    let plane = c .before .before .before .before .before .before .before .before .before .before .before .before .before .before .before .before .before .before .before .before .before .before .before .before .before .before .before .before .before .before .before .before .before .before .plane .ensures .0 in
+    let fill = at-fill .fill .ensures in
+    let plane = at-plane .plane .ensures .0 in
     let first = first-stage (a .s) (a .labels .now) (a .work .now) _ (a .n) _ (start .pre .1) plane fill _ (a .segments .now) (a .points .now) in
-    last-stage (a .s) (a .labels .now) (a .work .now) _ (a .n) _ (start .pre .1) plane fill _ (a .segments .now) (a .points .now) (a .nodes .now) _ _ _ _ _ (c .before .before .before .before .before .before .before .before .before .before .before .before .before .before .before .before .before .before .before .before .before .before .before .before .before .before .before .before .put-nodes .ensures)
-    (c .before .before .before .before .before .before .before .before .trace-rings .ensures _ [] (c .before .before .before .before .before .before .before .before .before .before .before .before .before .before .before .before .before .before .before .before .before .trace-segments .ensures _ (second (a .s) (a .labels .now)) first))
+    last-stage (a .s) (a .labels .now) (a .work .now) _ (a .n) _ (start .pre .1) plane fill _ (a .segments .now) (a .points .now) (a .nodes .now) _ _ _ _ _ (at-put-nodes .put-nodes .ensures)
+    (at-trace-rings .trace-rings .ensures _ [] (at-trace-segments .trace-segments .ensures _ (second (a .s) (a .labels .now)) first))
 
 pub trace-spec : {M : Type 1} → statement M
 trace-spec =

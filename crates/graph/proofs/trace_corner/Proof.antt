@@ -16,22 +16,34 @@ returns c =
     quiet (a .s) (a .labels .now) (a .x) (a .y) _ (ap maskIn (sym (start .pre .1 .0)) ∙ sym (c .before .edge-mask .ensures) ∙ c .if1 .taken)
 
 trace-ways-requires : tie.Need-trace-ways-requires
-trace-ways-requires c κs = c .before .before .before .before .before .before .before .before .before .before .before .pre
+trace-ways-requires c κs =
+    let start = c .before .before .before .before .before .before .before .before .before .before .before in
+    start .pre
 
 same-length : tie.Need-same-length
-same-length c = c .before .before .before .before .before .before .before .before .trace-ways .kept .1 .1 .1 .0
+same-length c =
+    let at-trace-ways = c .before .before .before .before .before .before .before .before in
+    at-trace-ways .trace-ways .kept .1 .1 .1 .0
 
 same-length-2 : tie.Need-same-length-2
-same-length-2 c = c .before .before .before .before .before .before .before .before .trace-ways .kept .1 .1 .1 .1 .0
+same-length-2 c =
+    let at-trace-ways = c .before .before .before .before .before .before .before .before in
+    at-trace-ways .trace-ways .kept .1 .1 .1 .1 .0
 
 same-length-3 : tie.Need-same-length-3
-same-length-3 c = c .before .before .before .before .before .before .before .before .trace-ways .kept .1 .1 .1 .1 .1 .0
+same-length-3 c =
+    let at-trace-ways = c .before .before .before .before .before .before .before .before in
+    at-trace-ways .trace-ways .kept .1 .1 .1 .1 .1 .0
 
 same-length-4 : tie.Need-same-length-4
-same-length-4 c = c .before .before .before .before .before .before .before .before .trace-ways .kept .1 .1 .1 .1 .1 .1 .0
+same-length-4 c =
+    let at-trace-ways = c .before .before .before .before .before .before .before .before in
+    at-trace-ways .trace-ways .kept .1 .1 .1 .1 .1 .1 .0
 
 returns-2 : tie.Need-returns-2
-returns-2 c = c .before .before .before .before .before .before .before .before .trace-ways .ensures
+returns-2 c =
+    let at-trace-ways = c .before .before .before .before .before .before .before .before in
+    at-trace-ways .trace-ways .ensures
 
 pub trace-corner-spec : {M : Type 1} → statement M
 trace-corner-spec =

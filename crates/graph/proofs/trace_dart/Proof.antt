@@ -18,18 +18,22 @@ use Rattle.graph.proofs.trace_dart.Tie as tie
 
 fresh-requires : tie.Need-fresh-requires
 fresh-requires c κs =
-    let a = c .before .before .before .before .before .before .args in
-    let d = c .before .before .before .before .before .before .pre .1 .1 .1 in
-    (record { wide = c .before .before .before .before .before .before .pre .0 .wide; high = c .before .before .before .before .before .before .pre .0 .high }, (c .before .before .before .before .before .before .pre .1 .0, (λ e. crack-edge (a .s) (a .labels .now) (a .w) (c .before .before .before .before .before .before .pre .1 .0) (sym (around-crack (pic (a .s) (a .labels .now)) (a .a) (a .w) (c .before .before .before .before .before .before .pre .1 .1 .0)) ∙ e), omega (arith, d .now .noded .planes))))
+    let start = c .before .before .before .before .before .before in
+    let a = start .args in
+    let d = start .pre .1 .1 .1 in
+    (record { wide = start .pre .0 .wide; high = start .pre .0 .high }, (start .pre .1 .0, (λ e. crack-edge (a .s) (a .labels .now) (a .w) (start .pre .1 .0) (sym (around-crack (pic (a .s) (a .labels .now)) (a .a) (a .w) (start .pre .1 .1 .0)) ∙ e), omega (arith, d .now .noded .planes))))
 
 trace-segment-requires : tie.Need-trace-segment-requires
 trace-segment-requires c κs =
-    let a = c .before .before .before .before .before .before .before .before .before .before .before .before .args in
-    let k = around-crack (pic (a .s) (a .labels .now)) (a .a) (a .w) (c .before .before .before .before .before .before .before .before .before .before .before .before .pre .1 .1 .0) in
+    let at-if1 = c .before .before .before .before in
+    let at-fresh = at-if1 .before in
+    let start = at-fresh .before .before .before .before .before .before .before in
+    let a = start .args in
+    let k = around-crack (pic (a .s) (a .labels .now)) (a .a) (a .w) (start .pre .1 .1 .0) in
     let p = crackIn (a .a) (dir (a .w .d)) in
     let m = marked (a .s .width) (a .s .height) (a .work .now) (dartOf (a .w)) in
-    let e : (p && not m) ≡ true = sym (c .before .before .before .before .before .fresh .ensures) ∙ c .before .before .before .before .if1 .taken in
-    (record { map = c .before .before .before .before .before .before .before .before .before .before .before .before .pre .0; way = c .before .before .before .before .before .before .before .before .before .before .before .before .pre .1 .0; crack = sym k ∙ and-left p (not m) e }, (c .before .before .before .before .before .before .before .before .before .before .before .before .pre .1 .1 .0, (not-true m (and-right p (not m) e), c .before .before .before .before .before .before .before .before .before .before .before .before .pre .1 .1 .1)))
+    let e : (p && not m) ≡ true = sym (at-fresh .fresh .ensures) ∙ at-if1 .if1 .taken in
+    (record { map = start .pre .0; way = start .pre .1 .0; crack = sym k ∙ and-left p (not m) e }, (start .pre .1 .1 .0, (not-true m (and-right p (not m) e), start .pre .1 .1 .1)))
 
 same-length : tie.Need-same-length
 same-length c = search needs
@@ -51,8 +55,9 @@ same-length-5 c = search needs
 
 returns-2 : tie.Need-returns-2
 returns-2 c =
-    let a = c .before .before .before .before .before .before .before .before .args in
-    let k = around-crack (pic (a .s) (a .labels .now)) (a .a) (a .w) (c .before .before .before .before .before .before .before .before .pre .1 .1 .0) in
+    let start = c .before .before .before .before .before .before .before .before in
+    let a = start .args in
+    let k = around-crack (pic (a .s) (a .labels .now)) (a .a) (a .w) (start .pre .1 .1 .0) in
     let e : (crack (pic (a .s) (a .labels .now)) (dartOf (a .w)) && not (marked (a .s .width) (a .s .height) (a .work .now) (dartOf (a .w)))) ≡ false = rw (← k) (sym (c .before .fresh .ensures) ∙ c .if1 .left) in
     λ o rest q. not-fresh _ _ o rest _ _ _ _ _ (a .w) q e
 

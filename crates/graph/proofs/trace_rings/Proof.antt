@@ -20,10 +20,12 @@ loop-holds c = let a = c .before .before .before .before .before .args in (omega
 
 trace-row-requires : tie.Need-trace-row-requires Inv-loop μ-loop
 trace-row-requires c κs =
-    let start = c .before .before .before .before .before .before .before .before .before .before .before in
+    let at-loop-test = c .before .before .before .before in
+    let at-loop = at-loop-test .before in
+    let start = at-loop .before .before .before .before .before .before in
     let a = start .args in
-    let l = c .before .before .before .before .before .loop in
-    let y = c .before .before .before .before .loop-test .taken in (
+    let l = at-loop .loop in
+    let y = at-loop-test .loop-test .taken in (
       start .pre .0,
       (
         y,
@@ -33,17 +35,26 @@ trace-row-requires c κs =
     )
 
 add-y : tie.Need-add-y Inv-loop μ-loop
-add-y c = omega (arith, c .before .before .before .before .before .before .before .before .before .before .before .before .before .loop-test .taken, c .before .before .before .before .before .before .before .before .before .before .before .before .before .before .before .before .before .before .before .before .pre .0 .high)
+add-y c =
+    let at-loop-test = c .before .before .before .before .before .before .before .before .before .before .before .before .before in
+    let start = at-loop-test .before .before .before .before .before .before .before in
+    omega (arith, at-loop-test .loop-test .taken, start .pre .0 .high)
 
 loop-less : tie.Need-loop-less Inv-loop μ-loop
-loop-less c = omega (arith, c .before .before .before .before .before .before .before .before .before .before .before .before .before .loop-test .taken)
+loop-less c =
+    let at-loop-test = c .before .before .before .before .before .before .before .before .before .before .before .before .before in
+    omega (arith, at-loop-test .loop-test .taken)
 
 loop-again : tie.Need-loop-again Inv-loop μ-loop
 loop-again c =
-    let a = c .before .before .before .before .before .before .before .before .before .before .before .before .before .before .before .before .before .before .before .before .args in
-    let l = c .before .before .before .before .before .before .before .before .before .before .before .before .before .before .loop in
-    let y = c .before .before .before .before .before .before .before .before .before .before .before .before .before .loop-test .taken in
-    let called = c .before .before .before .before .before .before .before .before .trace-row in (
+    let at-trace-row = c .before .before .before .before .before .before .before .before in
+    let at-loop-test = at-trace-row .before .before .before .before .before in
+    let at-loop = at-loop-test .before in
+    let start = at-loop .before .before .before .before .before .before in
+    let a = start .args in
+    let l = at-loop .loop in
+    let y = at-loop-test .loop-test .taken in
+    let called = at-trace-row .trace-row in (
       omega (arith, y),
       same-then (l .inv .1) (record { work = called .kept .1 .1 .0; nodes = called .kept .1 .1 .1 .0; segments = called .kept .1 .1 .1 .1 .0; points = called .kept .1 .1 .1 .1 .1 .0 }),
       goes (rowsOfWays (a .s)) (Stage (a .s) (a .labels .now)) 0 (l .y) (l .y) (rows-under (a .s .height) (l .y) y) (number-at (suc (a .s .height)) (l .y) (omega arith)) _ _ _ (l .inv .2) (called .ensures),
@@ -63,7 +74,8 @@ same-length-4 c = c .before .loop .inv .1 .points
 
 returns : tie.Need-returns Inv-loop μ-loop
 returns c =
-    let a = c .before .before .before .before .before .before .before .args in
+    let start = c .before .before .before .before .before .before .before in
+    let a = start .args in
     let l = c .before .loop in
     rw (corners-are (a .s) (a .labels .now)) (done (rowsOfWays (a .s)) (Stage (a .s) (a .labels .now)) _ _ (l .y) (rows-over (a .s .height) (l .y) (c .loop-test .left)) (l .inv .2))
 

@@ -22,14 +22,18 @@ look-requires : tie.Need-look-requires Inv-loop μ-loop
 look-requires c κs = let start = c .before .before .before .before .before in (start .pre .0, record { across = omega arith; down = start .pre .1 .0 })
 
 loop-holds : tie.Need-loop-holds Inv-loop μ-loop
-loop-holds c = let a = c .before .before .before .before .before .before .args in (omega arith, c .look .ensures, same-none, begin (waysOfRow (a .s) (a .y)) (Stage (a .s) (a .labels .now)) _)
+loop-holds c =
+    let start = c .before .before .before .before .before .before in
+    let a = start .args in (omega arith, c .look .ensures, same-none, begin (waysOfRow (a .s) (a .y)) (Stage (a .s) (a .labels .now)) _)
 
 trace-corner-requires : tie.Need-trace-corner-requires Inv-loop μ-loop
 trace-corner-requires c κs =
-    let start = c .before .before .before .before .before .before .before .before .before .before .before .before in
+    let at-loop-test = c .before .before .before .before in
+    let at-loop = at-loop-test .before in
+    let start = at-loop .before .before .before .before .before .before .before in
     let a = start .args in
-    let l = c .before .before .before .before .before .loop in
-    let x = c .before .before .before .before .loop-test .taken in (
+    let l = at-loop .loop in
+    let x = at-loop-test .loop-test .taken in (
       start .pre .0,
       (
         l .inv .1,
@@ -39,21 +43,32 @@ trace-corner-requires c κs =
 
 look-east-requires : tie.Need-look-east-requires Inv-loop μ-loop
 look-east-requires c κs =
-    let start = c .before .before .before .before .before .before .before .before .before .before .before .before .before .before .before .before .before .before .before .before .before in
-    (start .pre .0, (record { across = c .before .before .before .before .before .before .before .before .before .before .before .before .before .loop-test .taken; down = start .pre .1 .0 }, c .before .before .before .before .before .before .before .before .before .before .before .before .before .before .loop .inv .1))
+    let at-loop-test = c .before .before .before .before .before .before .before .before .before .before .before .before .before in
+    let at-loop = at-loop-test .before in
+    let start = at-loop .before .before .before .before .before .before .before in
+    (start .pre .0, (record { across = at-loop-test .loop-test .taken; down = start .pre .1 .0 }, at-loop .loop .inv .1))
 
 add-x : tie.Need-add-x Inv-loop μ-loop
-add-x c = omega (arith, c .before .before .before .before .before .before .before .before .before .before .before .before .before .before .loop-test .taken, c .before .before .before .before .before .before .before .before .before .before .before .before .before .before .before .before .before .before .before .before .before .before .pre .0 .wide)
+add-x c =
+    let at-loop-test = c .before .before .before .before .before .before .before .before .before .before .before .before .before .before in
+    let start = at-loop-test .before .before .before .before .before .before .before .before in
+    omega (arith, at-loop-test .loop-test .taken, start .pre .0 .wide)
 
 loop-less : tie.Need-loop-less Inv-loop μ-loop
-loop-less c = omega (arith, c .before .before .before .before .before .before .before .before .before .before .before .before .before .before .loop-test .taken)
+loop-less c =
+    let at-loop-test = c .before .before .before .before .before .before .before .before .before .before .before .before .before .before in
+    omega (arith, at-loop-test .loop-test .taken)
 
 loop-again : tie.Need-loop-again Inv-loop μ-loop
 loop-again c =
-    let a = c .before .before .before .before .before .before .before .before .before .before .before .before .before .before .before .before .before .before .before .before .before .before .args in
-    let l = c .before .before .before .before .before .before .before .before .before .before .before .before .before .before .before .loop in
-    let x = c .before .before .before .before .before .before .before .before .before .before .before .before .before .before .loop-test .taken in
-    let called = c .before .before .before .before .before .before .before .before .before .trace-corner in (
+    let at-trace-corner = c .before .before .before .before .before .before .before .before .before in
+    let at-loop-test = at-trace-corner .before .before .before .before .before in
+    let at-loop = at-loop-test .before in
+    let start = at-loop .before .before .before .before .before .before .before in
+    let a = start .args in
+    let l = at-loop .loop in
+    let x = at-loop-test .loop-test .taken in
+    let called = at-trace-corner .trace-corner in (
       omega (arith, x),
       c .look-east .ensures,
       same-then (l .inv .2) (record { work = called .kept .1 .1 .1 .0; nodes = called .kept .1 .1 .1 .1 .0; segments = called .kept .1 .1 .1 .1 .1 .0; points = called .kept .1 .1 .1 .1 .1 .1 .0 }),
@@ -74,7 +89,8 @@ same-length-4 c = c .before .loop .inv .2 .points
 
 returns : tie.Need-returns Inv-loop μ-loop
 returns c =
-    let a = c .before .before .before .before .before .before .before .before .args in
+    let start = c .before .before .before .before .before .before .before .before in
+    let a = start .args in
     let l = c .before .loop in
     done (waysOfRow (a .s) (a .y)) (Stage (a .s) (a .labels .now)) _ _ (l .x) (row-over (a .s .width) (l .x) (a .y) (c .loop-test .left)) (l .inv .3)
 

@@ -44,40 +44,51 @@ look-requires c κs =
 
 trace-ways-requires : tie.Need-trace-ways-requires Inv-loop μ-loop
 trace-ways-requires c κs =
-    let start = c .before .before .before .before .before .before .before .before .before .before .before .before .before .before in
+    let at-look = c .before .before .before .before in
+    let at-node-corner = at-look .before in
+    let at-loop-test = at-node-corner .before .before in
+    let at-loop = at-loop-test .before in
+    let start = at-loop .before .before .before .before .before .before in
     let a = start .args in
     let d = start .pre .1 in
-    let l = c .before .before .before .before .before .before .before .before .loop in
+    let l = at-loop .loop in
     let st = l .inv .2 (d .o) (d .rest) (d .now) in
-    let p = c .before .before .before .before .before .node-corner .ensures in
-    let n : l .n < length (nodesOf (pic (a .s) (a .labels .now))) = omega (arith, c .before .before .before .before .before .before .before .loop-test .taken, d .now .noded .count) in (
+    let p = at-node-corner .node-corner .ensures in
+    let n : l .n < length (nodesOf (pic (a .s) (a .labels .now))) = omega (arith, at-loop-test .loop-test .taken, d .now .noded .count) in (
       start .pre .0,
       (
-        c .before .before .before .before .look .ensures,
+        at-look .look .ensures,
         due (waysOfNodes (pic (a .s) (a .labels .now))) (Stage (a .s) (a .labels .now)) (0, 0) _ (l .n) n (corner-next st (l .n) n _ _ (p .0) (p .1)) _ _ (l .inv .2) d,
       ),
     )
 
 add-n : tie.Need-add-n Inv-loop μ-loop
 add-n c =
-    let start = c .before .before .before .before .before .before .before .before .before .before .before .before .before .before .before .before .before .before .before .before .before .before .before in
+    let at-loop-test = c .before .before .before .before .before .before .before .before .before .before .before .before .before .before .before .before in
+    let start = at-loop-test .before .before .before .before .before .before .before in
     let s = start .args .s in
-    omega (arith, c .before .before .before .before .before .before .before .before .before .before .before .before .before .before .before .before .loop-test .taken, start .pre .1 .now .noded .count, nodes-few s (start .args .labels .now), product (s .width + 1) (s .height + 1) (omega (arith, start .pre .0 .wide)) (omega (arith, start .pre .0 .high)))
+    omega (arith, at-loop-test .loop-test .taken, start .pre .1 .now .noded .count, nodes-few s (start .args .labels .now), product (s .width + 1) (s .height + 1) (omega (arith, start .pre .0 .wide)) (omega (arith, start .pre .0 .high)))
 
 loop-less : tie.Need-loop-less Inv-loop μ-loop
-loop-less c = omega (arith, c .before .before .before .before .before .before .before .before .before .before .before .before .before .before .before .before .loop-test .taken)
+loop-less c =
+    let at-loop-test = c .before .before .before .before .before .before .before .before .before .before .before .before .before .before .before .before in
+    omega (arith, at-loop-test .loop-test .taken)
 
 loop-again : tie.Need-loop-again Inv-loop μ-loop
 loop-again c =
-    let start = c .before .before .before .before .before .before .before .before .before .before .before .before .before .before .before .before .before .before .before .before .before .before .before in
+    let at-trace-ways = c .before .before .before .before .before .before .before .before in
+    let at-node-corner = at-trace-ways .before .before .before .before .before .before in
+    let at-loop-test = at-node-corner .before .before in
+    let at-loop = at-loop-test .before in
+    let start = at-loop .before .before .before .before .before .before in
     let a = start .args in
     let d = start .pre .1 in
-    let l = c .before .before .before .before .before .before .before .before .before .before .before .before .before .before .before .before .before .loop in
+    let l = at-loop .loop in
     let st = l .inv .2 (d .o) (d .rest) (d .now) in
-    let p = c .before .before .before .before .before .before .before .before .before .before .before .before .before .before .node-corner .ensures in
-    let n : l .n < length (nodesOf (pic (a .s) (a .labels .now))) = omega (arith, c .before .before .before .before .before .before .before .before .before .before .before .before .before .before .before .before .loop-test .taken, d .now .noded .count) in
-    let called = c .before .before .before .before .before .before .before .before .trace-ways in (
-      omega (arith, c .before .before .before .before .before .before .before .before .before .before .before .before .before .before .before .before .loop-test .taken),
+    let p = at-node-corner .node-corner .ensures in
+    let n : l .n < length (nodesOf (pic (a .s) (a .labels .now))) = omega (arith, at-loop-test .loop-test .taken, d .now .noded .count) in
+    let called = at-trace-ways .trace-ways in (
+      omega (arith, at-loop-test .loop-test .taken),
       same-then (l .inv .1) (record { work = called .kept .1 .1 .1 .0; nodes = called .kept .1 .1 .1 .1 .0; segments = called .kept .1 .1 .1 .1 .1 .0; points = called .kept .1 .1 .1 .1 .1 .1 .0 }),
       goes (waysOfNodes (pic (a .s) (a .labels .now))) (Stage (a .s) (a .labels .now)) (0, 0) _ (l .n) n (corner-next st (l .n) n _ _ (p .0) (p .1)) _ _ _ (l .inv .2) (called .ensures),
     )

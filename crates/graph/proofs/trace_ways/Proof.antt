@@ -23,10 +23,12 @@ loop-holds c = let a = c .before .before .before .before .before .args in (omega
 
 trace-dart-requires : tie.Need-trace-dart-requires Inv-loop μ-loop
 trace-dart-requires c κs =
-    let start = c .before .before .before .before .before .before .before .before .before .before .before in
+    let at-loop-test = c .before .before .before .before in
+    let at-loop = at-loop-test .before in
+    let start = at-loop .before .before .before .before .before .before in
     let a = start .args in
-    let l = c .before .before .before .before .before .loop in
-    let d = c .before .before .before .before .loop-test .taken in (
+    let l = at-loop .loop in
+    let d = at-loop-test .loop-test .taken in (
       start .pre .0,
       (
         d,
@@ -38,17 +40,25 @@ trace-dart-requires c κs =
     )
 
 add-d : tie.Need-add-d Inv-loop μ-loop
-add-d c = omega (arith, c .before .before .before .before .before .before .before .before .before .before .before .before .before .loop-test .taken)
+add-d c =
+    let at-loop-test = c .before .before .before .before .before .before .before .before .before .before .before .before .before in
+    omega (arith, at-loop-test .loop-test .taken)
 
 loop-less : tie.Need-loop-less Inv-loop μ-loop
-loop-less c = omega (arith, c .before .before .before .before .before .before .before .before .before .before .before .before .before .loop-test .taken)
+loop-less c =
+    let at-loop-test = c .before .before .before .before .before .before .before .before .before .before .before .before .before in
+    omega (arith, at-loop-test .loop-test .taken)
 
 loop-again : tie.Need-loop-again Inv-loop μ-loop
 loop-again c =
-    let a = c .before .before .before .before .before .before .before .before .before .before .before .before .before .before .before .before .before .before .before .before .args in
-    let l = c .before .before .before .before .before .before .before .before .before .before .before .before .before .before .loop in
-    let d = c .before .before .before .before .before .before .before .before .before .before .before .before .before .loop-test .taken in
-    let called = c .before .before .before .before .before .before .before .before .trace-dart in (
+    let at-trace-dart = c .before .before .before .before .before .before .before .before in
+    let at-loop-test = at-trace-dart .before .before .before .before .before in
+    let at-loop = at-loop-test .before in
+    let start = at-loop .before .before .before .before .before .before in
+    let a = start .args in
+    let l = at-loop .loop in
+    let d = at-loop-test .loop-test .taken in
+    let called = at-trace-dart .trace-dart in (
       omega (arith, d),
       same-then (l .inv .1) (record { work = called .kept .1 .1 .1 .0; nodes = called .kept .1 .1 .1 .1 .0; segments = called .kept .1 .1 .1 .1 .1 .0; points = called .kept .1 .1 .1 .1 .1 .1 .0 }),
       goes (waysOf (a .x) (a .y)) (Stage (a .s) (a .labels .now)) noDart (dart (a .x) (a .y) (dir (l .d))) (l .d) (ways-under (a .x) (a .y) (l .d) d) (dart-at (a .x) (a .y) (l .d) noDart d) _ _ _ (l .inv .2) (called .ensures),
@@ -68,7 +78,8 @@ same-length-4 c = c .before .loop .inv .1 .points
 
 returns : tie.Need-returns Inv-loop μ-loop
 returns c =
-    let a = c .before .before .before .before .before .before .before .args in
+    let start = c .before .before .before .before .before .before .before in
+    let a = start .args in
     let l = c .before .loop in
     done (waysOf (a .x) (a .y)) (Stage (a .s) (a .labels .now)) _ _ (l .d) (ways-over (a .x) (a .y) (l .d) (c .loop-test .left)) (l .inv .2)
 

@@ -20,10 +20,16 @@ cast-if3 : tie.Need-cast-if3
 cast-if3 c = search needs
 
 returns-3 : tie.Need-returns-3
-returns-3 c = λ l ns ss ps k en es ep. few-points l (c .before .before .before .before .before .before .args .c) k ns ss ps (rw en (c .before .before .before .before .if1 .left)) (rw es (c .before .before .if2 .left)) (rw ep (c .if3 .taken))
+returns-3 c =
+    let at-if1 = c .before .before .before .before in
+    let start = at-if1 .before .before in
+    λ l ns ss ps k en es ep. few-points l (start .args .c) k ns ss ps (rw en (at-if1 .if1 .left)) (rw es (c .before .before .if2 .left)) (rw ep (c .if3 .taken))
 
 returns-4 : tie.Need-returns-4
-returns-4 c = λ l ns ss ps k en es ep. graph-room l (c .before .before .before .before .before .before .args .c) k ns ss ps (rw en (c .before .before .before .before .if1 .left)) (rw es (c .before .before .if2 .left)) (rw ep (c .if3 .left))
+returns-4 c =
+    let at-if1 = c .before .before .before .before in
+    let start = at-if1 .before .before in
+    λ l ns ss ps k en es ep. graph-room l (start .args .c) k ns ss ps (rw en (at-if1 .if1 .left)) (rw es (c .before .before .if2 .left)) (rw ep (c .if3 .left))
 
 pub check-graph-spec : {M : Type 1} → statement M
 check-graph-spec =

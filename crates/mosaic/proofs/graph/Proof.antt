@@ -19,13 +19,15 @@ same-length c = search needs
 
 returns : tie.Need-returns
 returns c =
-    let a = c .before .before .before .before .before .before .before .before .before .args in
+    let start = c .before .before .before .before .before .before .before .before .before in
+    let a = start .args in
     let early = c .before .before .check-map .ensures in
     graph-refused (a .s) (a .labels .now) (a .work .now) (a .nodes .now) (a .segments .now) (a .points .now) _ (λ z. c .before .if1 .taken (early ∙ z)) (c .refuse .ensures ∙ ap refused early)
 
 count-graph-requires : tie.Need-count-graph-requires
 count-graph-requires c κs =
-    let a = c .before .before .before .before .before .before .before .before .before .args in
+    let start = c .before .before .before .before .before .before .before .before .before in
+    let a = start .args in
     let early = c .before .before .check-map .ensures in
     (map-passed (a .s) (a .labels .now) (a .work .now) _ early (c .before .if1 .left), planes-passed (a .s) (a .labels .now) (a .work .now) _ early (c .before .if1 .left))
 
@@ -34,17 +36,27 @@ check-graph-requires c κs = search needs
 
 write-graph-requires : tie.Need-write-graph-requires
 write-graph-requires c κs =
-    let a = c .before .before .before .before .before .before .before .before .before .before .before .before .before .before .before .before .before .args in
-    let k = c .before .before .before .before .before .before .before .count-graph .ensures in
-    let number = c .before .before .before .before .check-graph .ensures (graphList (mapOf (a .s) (a .labels .now))) (a .nodes .now) (a .segments .now) (a .points .now) (k .counts) refl refl refl in
-    (map-passed (a .s) (a .labels .now) (a .work .now) _ (c .before .before .before .before .before .before .before .before .before .before .check-map .ensures) (c .before .before .before .before .before .before .before .before .before .if1 .left), (k .noded, graph-roomy (a .s) (a .labels .now) (a .nodes .now) (a .segments .now) (a .points .now) _ number))
+    let at-check-graph = c .before .before .before .before in
+    let at-count-graph = at-check-graph .before .before .before in
+    let at-if1 = at-count-graph .before .before in
+    let at-check-map = at-if1 .before in
+    let start = at-check-map .before .before .before .before .before .before .before in
+    let a = start .args in
+    let k = at-count-graph .count-graph .ensures in
+    let number = at-check-graph .check-graph .ensures (graphList (mapOf (a .s) (a .labels .now))) (a .nodes .now) (a .segments .now) (a .points .now) (k .counts) refl refl refl in
+    (map-passed (a .s) (a .labels .now) (a .work .now) _ (at-check-map .check-map .ensures) (at-if1 .if1 .left), (k .noded, graph-roomy (a .s) (a .labels .now) (a .nodes .now) (a .segments .now) (a .points .now) _ number))
 
 clear-requires : tie.Need-clear-requires
 clear-requires c κs =
-    let a = c .before .before .before .before .before .before .before .before .before .before .before .before .before .before .before .before .before .before .before .before .before .before .before .before .before .before .before .args in
-    let early = c .before .before .before .before .before .before .before .before .before .before .before .before .before .before .before .before .before .before .before .before .check-map .ensures in
-    let map = map-passed (a .s) (a .labels .now) (a .work .now) _ early (c .before .before .before .before .before .before .before .before .before .before .before .before .before .before .before .before .before .before .before .if1 .left) in
-    (map .wide, map .high, omega (arith, planes-passed (a .s) (a .labels .now) (a .work .now) _ early (c .before .before .before .before .before .before .before .before .before .before .before .before .before .before .before .before .before .before .before .if1 .left), c .before .before .before .before .before .before .before .before .before .before .before .before .before .before .before .before .before .count-graph .ensures .kept .long, c .before .before .before .before .before .before .before .before .before .write-graph .ensures .kept .long))
+    let at-write-graph = c .before .before .before .before .before .before .before .before .before in
+    let at-count-graph = at-write-graph .before .before .before .before .before .before .before .before in
+    let at-if1 = at-count-graph .before .before in
+    let at-check-map = at-if1 .before in
+    let start = at-check-map .before .before .before .before .before .before .before in
+    let a = start .args in
+    let early = at-check-map .check-map .ensures in
+    let map = map-passed (a .s) (a .labels .now) (a .work .now) _ early (at-if1 .if1 .left) in
+    (map .wide, map .high, omega (arith, planes-passed (a .s) (a .labels .now) (a .work .now) _ early (at-if1 .if1 .left), at-count-graph .count-graph .ensures .kept .long, at-write-graph .write-graph .ensures .kept .long))
 
 same-length-2 : tie.Need-same-length-2
 same-length-2 c = search needs
@@ -60,11 +72,17 @@ same-length-5 c = search needs
 
 returns-2 : tie.Need-returns-2
 returns-2 c =
-    let a = c .before .before .before .before .before .before .before .before .before .before .before .before .before .before .before .before .before .before .before .before .before .before .before .before .before .before .before .before .before .before .args in
-    let k = c .before .before .before .before .before .before .before .before .before .before .before .before .before .before .before .before .before .before .before .before .count-graph .ensures in
-    let number = c .before .before .before .before .before .before .before .before .before .before .before .before .before .before .before .before .before .check-graph .ensures (graphList (mapOf (a .s) (a .labels .now))) (a .nodes .now) (a .segments .now) (a .points .now) (k .counts) refl refl refl in
+    let at-write-graph = c .before .before .before .before .before .before .before .before .before .before .before .before in
+    let at-check-graph = at-write-graph .before .before .before .before .before in
+    let at-count-graph = at-check-graph .before .before .before in
+    let at-if1 = at-count-graph .before .before in
+    let at-check-map = at-if1 .before in
+    let start = at-check-map .before .before .before .before .before .before .before in
+    let a = start .args in
+    let k = at-count-graph .count-graph .ensures in
+    let number = at-check-graph .check-graph .ensures (graphList (mapOf (a .s) (a .labels .now))) (a .nodes .now) (a .segments .now) (a .points .now) (k .counts) refl refl refl in
     graph-answered (a .s) (a .labels .now) (a .work .now) (a .nodes .now) (a .segments .now) (a .points .now) _ _ _ _ _ _ _ _
-    (sym (c .before .before .before .before .before .before .before .before .before .before .before .before .before .before .before .before .before .before .before .before .before .before .before .check-map .ensures) ∙ c .before .before .before .before .before .before .before .before .before .before .before .before .before .before .before .before .before .before .before .before .before .before .if1 .left) k number (c .before .before .before .before .before .before .before .before .before .before .before .before .write-graph .ensures) (c .before .before .clear .ensures)
+    (sym (at-check-map .check-map .ensures) ∙ at-if1 .if1 .left) k number (at-write-graph .write-graph .ensures) (c .before .before .clear .ensures)
 
 pub graph-spec : {M : Type 1} → statement M
 graph-spec =

@@ -20,7 +20,11 @@ same-length-4 : tie.Need-same-length-4
 same-length-4 c = search needs
 
 returns : tie.Need-returns
-returns c = let start = c .before .before .before .before .before .before .before .before .before .before .before .before .before .before .before .before .before .before .before in graph-written (c .before .before .before .before .before .before .before .before .before .before .before .before .before .if1 .taken) (start .pre .1 .1 .0) (start .pre .1 .1 .1 .0) (start .pre .1 .1 .1 .1) (c .before .before .before .before .before .before .before .before .trace .ensures)
+returns c =
+    let at-trace = c .before .before .before .before .before .before .before .before in
+    let at-if1 = at-trace .before .before .before .before .before in
+    let start = at-if1 .before .before .before .before .before .before in
+    graph-written (at-if1 .if1 .taken) (start .pre .1 .1 .0) (start .pre .1 .1 .1 .0) (start .pre .1 .1 .1 .1) (at-trace .trace .ensures)
 
 returns-2 : tie.Need-returns-2
 returns-2 c = graph-left (c .if1 .left)
