@@ -28,7 +28,7 @@ use Rattle.lattice.specs.Size.{Sides, Map, Corner, pic}
 use Rattle.lattice.specs.Around.{aroundOf, nodeIn}
 use Rattle.lattice.proofs.Ways.{node-in}
 use Rattle.lattice.specs.Planes.{plane, place}
-use Rattle.lattice.proofs.Laws.{one-place, corner-low}
+use Rattle.lattice.proofs.Planes.{place-low, place-one}
 use Rattle.graph.specs.Words.{nodeWord}
 use Rattle.graph.specs.Planes.{idSlot, xSlot, ySlot, cornerIn, cornersIn}
 use Rattle.graph.specs.Todo.{Due}
@@ -143,7 +143,7 @@ module _ (s : Size) (ls work₀ : List ℕ) (rest : List (ℕ × ℕ)) (work : L
       work₃ = set work₂ (ySlot w h n) y
 
       here-low : place w x y < plane w h
-      here-low = corner-low w h x y (at .across) (at .down)
+      here-low = place-low w h x y (at .across) (at .down)
 
       long : length work₃ ≡ length work
       long = length-set work₂ (ySlot w h n) y ∙ length-set work₁ (xSlot w h n) x ∙ length-set work (idSlot w h x y) n
@@ -167,12 +167,12 @@ module _ (s : Size) (ls work₀ : List ℕ) (rest : List (ℕ × ℕ)) (work : L
       id-of : (x′ y′ : ℕ) → Corner s x′ y′ → In (x′, y′) (o .done ++ ((x, y) ∷ [])) → getD work₃ (idSlot w h x′ y′) 0 ≡ nodeAt (nodes (pic s ls)) 0 x′ y′
       id-of x′ y′ at′ i =
           let low = number-low in
-          let there-low = corner-low w h x′ y′ (at′ .across) (at′ .down) in
+          let there-low = place-low w h x′ y′ (at′ .across) (at′ .down) in
           getD-set-other work₂ (ySlot w h n) (idSlot w h x′ y′) y 0 (λ q. omega arith)
           ∙ getD-set-other work₁ (xSlot w h n) (idSlot w h x′ y′) x 0 (λ q. omega arith)
           ∙ elim (ℕ-discrete (idSlot w h x′ y′) (idSlot w h x y)) [
             | yes q ↦
-                (let r = one-place (w + 1) x′ y′ x y (omega (arith, at′ .across)) (omega (arith, at .across)) (omega arith) in
+                (let r = place-one w x′ y′ x y (at′ .across) (at .across) (omega arith) in
                 ap (λ (i : ℕ). getD work₁ i 0) q
                 ∙ getD-set-same work (idSlot w h x y) n 0 (omega (arith, o .planes, here-low))
                 ∙ sym its-number

@@ -15,7 +15,7 @@ use Rattle.rules.proofs.Lattice.Frame.{Framed}
 use Rattle.rules.proofs.Lattice.Darts.{same-path, crack-x, crack-y}
 use Rattle.lattice.specs.declared.Size.{Size}
 use Rattle.lattice.specs.Size.{pic}
-use Rattle.lattice.proofs.Laws.{one-place, corner-low}
+use Rattle.lattice.proofs.Planes.{place-low, place-one}
 use Rattle.lattice.proofs.Frame.{north, east, south, west, framed}
 use Rattle.lattice.specs.Planes.{plane, place}
 use Rattle.graph.specs.Planes.{slotAt, slot, marked, markAll, Inside}
@@ -41,7 +41,7 @@ module _ (w h x y r : ℕ) where
 -- PLACES: two corners with one number are one corner
 module _ (w h : ℕ) where
   abbrev low : (x y : ℕ) → x ≤ w → y ≤ h → place w x y < plane w h
-  low = corner-low w h
+  low = place-low w h
 
   -- an edge's word is in the two planes
   pub slot-low : (a : Dart) → Inside w h a → slot w h a < 2 * plane w h
@@ -93,48 +93,48 @@ module _ (w h : ℕ) where
       go : (x y : ℕ) (d : Dir) (x′ y′ : ℕ) (d′ : Dir) → Inside w h (dart x y d) → Inside w h (dart x′ y′ d′) → slotAt w h x y d ≡ slotAt w h x′ y′ d′ → same (dart x y d) (dart x′ y′ d′) ≡ true
       go x y N x′ y′ N i j e =
           let p : pred y * (w + 1) + x ≡ pred y′ * (w + 1) + x′ = omega arith in
-          let q = one-place (w + 1) x (pred y) x′ (pred y′) (omega arith) (omega arith) p in
+          let q = place-one w x (pred y) x′ (pred y′) (omega arith) (omega arith) p in
           let n = i .north refl in let n′ = j .north refl in
           in-left (dart x y N) (dart x′ y′ N) (both x y x′ y′ N (omega arith) (omega arith))
       go x y N x′ y′ E i j e = absurd (let z = i .across in let z′ = j .across in omega (arith, low x′ y′ (omega arith) (omega arith)))
       go x y N x′ y′ S i j e =
           let p : pred y * (w + 1) + x ≡ y′ * (w + 1) + x′ = omega arith in
-          let q = one-place (w + 1) x (pred y) x′ y′ (omega arith) (omega arith) p in
+          let q = place-one w x (pred y) x′ y′ (omega arith) (omega arith) p in
           let n = i .north refl in
           in-right (dart x y N) (dart x′ y′ S) (both x (pred y) x′ y′ S (omega arith) (omega arith))
       go x y N x′ y′ W i j e = absurd (let z = i .across in let z′ = j .across in omega (arith, low (pred x′) y′ (omega arith) (omega arith)))
       go x y E x′ y′ N i j e = absurd (let z = i .across in let z′ = j .across in omega (arith, low x y (omega arith) (omega arith)))
       go x y E x′ y′ E i j e =
           let p : y * (w + 1) + x ≡ y′ * (w + 1) + x′ = omega arith in
-          let q = one-place (w + 1) x y x′ y′ (omega arith) (omega arith) p in
+          let q = place-one w x y x′ y′ (omega arith) (omega arith) p in
           in-left (dart x y E) (dart x′ y′ E) (both x y x′ y′ E (omega arith) (omega arith))
       go x y E x′ y′ S i j e = absurd (let z = i .across in let z′ = j .across in omega (arith, low x y (omega arith) (omega arith)))
       go x y E x′ y′ W i j e =
           let p : y * (w + 1) + x ≡ y′ * (w + 1) + pred x′ = omega arith in
-          let q = one-place (w + 1) x y (pred x′) y′ (omega arith) (omega arith) p in
+          let q = place-one w x y (pred x′) y′ (omega arith) (omega arith) p in
           let n′ = j .west refl in
           in-right (dart x y E) (dart x′ y′ W) (both (suc x) y x′ y′ W (omega arith) (omega arith))
       go x y S x′ y′ N i j e =
           let p : y * (w + 1) + x ≡ pred y′ * (w + 1) + x′ = omega arith in
-          let q = one-place (w + 1) x y x′ (pred y′) (omega arith) (omega arith) p in
+          let q = place-one w x y x′ (pred y′) (omega arith) (omega arith) p in
           let n′ = j .north refl in
           in-right (dart x y S) (dart x′ y′ N) (both x (suc y) x′ y′ N (omega arith) (omega arith))
       go x y S x′ y′ E i j e = absurd (let z = i .across in let z′ = j .across in omega (arith, low x′ y′ (omega arith) (omega arith)))
       go x y S x′ y′ S i j e =
           let p : y * (w + 1) + x ≡ y′ * (w + 1) + x′ = omega arith in
-          let q = one-place (w + 1) x y x′ y′ (omega arith) (omega arith) p in
+          let q = place-one w x y x′ y′ (omega arith) (omega arith) p in
           in-left (dart x y S) (dart x′ y′ S) (both x y x′ y′ S (omega arith) (omega arith))
       go x y S x′ y′ W i j e = absurd (let z = i .across in let z′ = j .across in omega (arith, low (pred x′) y′ (omega arith) (omega arith)))
       go x y W x′ y′ N i j e = absurd (let z = i .across in let z′ = j .across in omega (arith, low (pred x) y (omega arith) (omega arith)))
       go x y W x′ y′ E i j e =
           let p : y * (w + 1) + pred x ≡ y′ * (w + 1) + x′ = omega arith in
-          let q = one-place (w + 1) (pred x) y x′ y′ (omega arith) (omega arith) p in
+          let q = place-one w (pred x) y x′ y′ (omega arith) (omega arith) p in
           let n = i .west refl in
           in-right (dart x y W) (dart x′ y′ E) (both (pred x) y x′ y′ E (omega arith) (omega arith))
       go x y W x′ y′ S i j e = absurd (let z = i .across in let z′ = j .across in omega (arith, low (pred x) y (omega arith) (omega arith)))
       go x y W x′ y′ W i j e =
           let p : y * (w + 1) + pred x ≡ y′ * (w + 1) + pred x′ = omega arith in
-          let q = one-place (w + 1) (pred x) y (pred x′) y′ (omega arith) (omega arith) p in
+          let q = place-one w (pred x) y (pred x′) y′ (omega arith) (omega arith) p in
           let n = i .west refl in let n′ = j .west refl in
           in-left (dart x y W) (dart x′ y′ W) (both x y x′ y′ W (omega arith) (omega arith))
 

@@ -4,3 +4,7 @@ pub mod Rounds
 pub mod Discovery
 pub mod Painted
 pub mod Sides
+pub mod Loops
+pub mod Easts
+pub mod Counts
+pub mod Few

@@ -3,5 +3,8 @@ pub mod Booleans
 pub mod Lists
 pub mod Pigeonhole
 pub mod Order
+pub mod Rearranging
 pub mod Sums
 pub mod Orbits
+pub mod Walking
+pub mod Cycles

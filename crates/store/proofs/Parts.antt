@@ -1,10 +1,12 @@
 -- Parts of a store as lists.
-use Prim.Native.Nat.{ℕ, zero, suc, _+_, _-_, _<_}
-use mathlib.Core.Path.{_≡_, refl, ap, ap₂}
-use mathlib.Core.List.{List, _∷_, _++_, List·Memᴰ as In, List·Memᴰ·head as here, List·Memᴰ·tail as there, List·Memᴰ·not-nil as not-nil}
+use Prim.Native.Nat.{ℕ, zero, suc, _+_, _-_, _<_, _≤_}
+use mathlib.Core.Path.{_≡_, refl, ap, ap₂, _∙_}
+use mathlib.Core.List.{List, [], _∷_, _++_, List·Memᴰ as In, List·Memᴰ·head as here, List·Memᴰ·tail as there, List·Memᴰ·not-nil as not-nil}
 use native.Mathlib.Omega.{arith}
-use lib.ListN.{length, getD}
+use lib.ListN.{length, getD, set, length-set}
+use lib.Seq.{sets, getD-set-same}
 use Rattle.store.specs.Words.{part}
+use Rattle.store.proofs.Writes.{sets-before}
 
 pub length-part : (ws : List ℕ) (b n : ℕ) → length (part ws b n) ≡ n
 length-part ws b zero = refl
@@ -53,3 +55,13 @@ part-append ws a (suc m) n =
     let e : a + suc m ≡ suc a + m = omega arith in
     let z : suc m + n ≡ suc (m + n) = omega arith in
     rw (e, z) (ap (λ (l : List ℕ). getD ws a 0 ∷ l) (part-append ws (suc a) m n))
+
+pub part-halves : (ws : List ℕ) (a h n : ℕ) → h ≤ n → part ws a n ≡ part ws a h ++ part ws (a + h) (n - h)
+part-halves ws a h n l = let e : n ≡ h + (n - h) = omega arith in ap (part ws a) e ∙ part-append ws a h (n - h)
+
+-- a part that was written
+pub part-sets : (l : List ℕ) (i : ℕ) (vs : List ℕ) → i + length vs ≤ length l → part (sets l i vs) i (length vs) ≡ vs
+part-sets l i [] h = refl
+part-sets l i (v ∷ vs) h =
+    ap₂ (λ (x : ℕ) (m : List ℕ). x ∷ m) (sets-before (set l i v) (suc i) vs i (omega arith) ∙ getD-set-same l i v 0 (omega arith))
+    (part-sets (set l i v) (suc i) vs (omega (arith, length-set l i v)))

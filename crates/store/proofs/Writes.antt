@@ -91,6 +91,12 @@ kept-none = record { long = refl; others = λ i o. refl }
 pub kept-then : {from end : ℕ} {ws ws′ ws″ : List ℕ} → Kept from end ws ws′ → Kept from end ws′ ws″ → Kept from end ws ws″
 kept-then k m = record { long = m .long ∙ k .long; others = λ i o. m .others i o ∙ k .others i o }
 
+pub kept-set : {from end : ℕ} (ws : List ℕ) (i v : ℕ) → from ≤ i → i < end → Kept from end ws (set ws i v)
+kept-set {from} {end} ws i v p q = record {
+  long = length-set ws i v;
+  others = λ k o. getD-set-other ws i k v 0 (λ e. ⊎-elim {C = ⊥} (λ (h : k < from). omega arith) (λ (h : end ≤ k). omega arith) o);
+}
+
 -- a smaller part
 pub kept-within : {from end from′ end′ : ℕ} {ws ws′ : List ℕ} → from ≤ from′ → end′ ≤ end → Kept from′ end′ ws ws′ → Kept from end ws ws′
 kept-within {from} {end} {from′} {end′} p q k = record {

@@ -1,9 +1,8 @@
 -- `lattice::plane` meets its contract.
-use Prim.Native.Nat.{_+_}
 use mathlib.Core.Path.{refl}
 use native.Mathlib.Omega.{arith}
 use borrow.Author.Needs.{needs}
-use Rattle.lattice.proofs.Laws.{product}
+use Rattle.lattice.proofs.Planes.{plane-low}
 use Rattle.lattice.proofs.plane.Statement.{statement}
 use Rattle.lattice.proofs.plane.Tie as tie
 
@@ -20,10 +19,10 @@ add-result-2 : tie.Need-add-result-2
 add-result-2 c = search needs
 
 mul-result : tie.Need-mul-result
-mul-result c = omega (arith, product (c .before .before .args .s .width + 1) (c .before .before .args .s .height + 1) (omega arith) (omega arith))
+mul-result c = omega (arith, plane-low (c .before .before .args .s .width) (c .before .before .args .s .height) (omega arith) (omega arith))
 
 returns : tie.Need-returns
-returns c = (refl, product (c .before .before .args .s .width + 1) (c .before .before .args .s .height + 1) (omega arith) (omega arith))
+returns c = (refl, plane-low (c .before .before .args .s .width) (c .before .before .args .s .height) (omega arith) (omega arith))
 
 pub plane-spec : {M : Type 1} → statement M
 plane-spec =

@@ -13,13 +13,12 @@ use Rattle.rules.specs.Face.{Face, faces, contours}
 use Rattle.rules.specs.Records.{contoursOf}
 use Rattle.rules.specs.Calls.{cuts, Answer, counted}
 use Rattle.rules.proofs.Ground.Lists.{keep-few}
-use Rattle.rules.proofs.Ground.Pigeonhole.{rearranged-length}
-use Rattle.rules.proofs.Ground.Sums.{rearranged-flat}
 use Rattle.rules.proofs.Lattice.Frame.{Framed}
 use Rattle.rules.proofs.Lattice.Grid.{length-rows}
 use Rattle.rules.proofs.Tracing.Counts.{step-count, has-step, segment-count, crack-count}
 use Rattle.rules.proofs.Contours.Painted.{painted, contour-count, reference-count}
 use Rattle.rules.proofs.Faces.Faced.{faced, faces-few}
+use Rattle.rules.proofs.Faces.Counts.{contours-count, references-count}
 use Rattle.rules.proofs.CutList.Lengths.{length-nodes, length-segments, length-points, length-contours, length-faces}
 
 -- the counts are the numbers of the records, and steps the number of cracks
@@ -86,13 +85,12 @@ module _ {P : Picture} (F : Framed P) {ss : List (List Dart)} (D : Describes P s
   bounds n =
       let k = counts F D fs n in
       let p = painted F D paints b in
-      let f = faced F D b in
       record {
         nodes = omega (arith, k .nodes, node-count P);
         steps = omega (arith, k .steps, crack-count F);
         segments = omega (arith, k .segments, k .steps, segment-count F D);
         points = omega (arith, k .points, k .steps, k .segments);
-        references = omega (arith, k .references, k .segments, reference-count p, rearranged-flat (f .arranged));
-        contours = omega (arith, k .contours, k .references, contour-count p, rearranged-flat (f .arranged), rearranged-length (f .arranged));
-        faces = omega (arith, k .faces, k .contours, faces-few f);
+        references = omega (arith, k .references, k .segments, reference-count p, references-count F D b);
+        contours = omega (arith, k .contours, k .references, contour-count p, references-count F D b, contours-count F D b);
+        faces = omega (arith, k .faces, k .contours, faces-few (faced F D b));
       }

@@ -53,7 +53,7 @@ module _ {A : Type 0} where
         go true p e = omega arith
         go false p e = omega (arith, h a (here refl) p)
 
-    sum-without : {a : A} {l : List A} (m : In a l) → sum f l ≡ f a + sum f (without m)
+    pub sum-without : {a : A} {l : List A} (m : In a l) → sum f l ≡ f a + sum f (without m)
     unfolding without
     sum-without (here {xs = l} e) = ap (λ b. f b + sum f l) (sym e)
     sum-without (there {x = x} m) = omega (arith, sum-without m)
