@@ -1,18 +1,18 @@
 -- A walk under way, and its end.
 use Prim.Native.Nat.{ℕ, zero, suc, _+_, _*_, _≤_, _<_}
 use mathlib.Core.Path.{_≡_, refl, sym, ap, subst, _∙_}
-use mathlib.Core.Bool.{Bool, true, false, _&&_, _||_, true≢false}
+use mathlib.Core.Bool.{Bool, true, false, _&&_, _||_}
 use mathlib.Core.List.{List, [], _∷_, _++_, append-assoc, List·Memᴰ as In}
 use native.Mathlib.Omega.{arith}
-use native.Mathlib.Nat.{mul-le-mul}
 use lib.Dec.{eqb}
 use lib.ListN.{length, set, length-append}
 use lib.Seq.{sets, length-sets}
-use Rattle.rules.specs.Picture.{Picture, picture, Dart, crack, aheadX, aheadY}
+use Rattle.rules.specs.Picture.{Picture, Dart, crack, aheadX, aheadY}
 use Rattle.rules.specs.Graph.{walk, fuel, following, meets, ending}
 use Rattle.rules.specs.Records.{pointRecords}
 use Rattle.rules.proofs.Lattice.WayOn.{following-crack}
-use Rattle.rules.proofs.Ground.Orbits.{Walk}
+use Rattle.rules.proofs.Ground.Walking.{over, goes}
+use Rattle.lattice.proofs.Planes.{fuel-low}
 use Rattle.rules.proofs.Tracing.Walks.{Steps, going-meets, the-walk, walk-crack}
 use Rattle.lattice.specs.declared.Around.{Around}
 use Rattle.lattice.specs.declared.Size.{Size}
@@ -29,16 +29,6 @@ use Rattle.store.proofs.Writes.{sets-append}
 use Rattle.graph.proofs.Growing.{marks-more, length-marks, reached-more, length-reached, length-more, last-more}
 use Rattle.graph.proofs.Slots.{crack-inside}
 
--- one step of a walk
-module _ {A : Type 0} (f : A → A) (stop : A → Bool) where
-  over : (a : A) (l : List A) → Walk f stop a l → stop a ≡ true → l ≡ []
-  over a [] w e = refl
-  over a (b ∷ l) w e = absurd (true≢false (sym e ∙ w .0))
-
-  goes : (a : A) (l : List A) → Walk f stop a l → stop a ≡ false → (m : List A) × (l ≡ f a ∷ m) × Walk f stop (f a) m
-  goes a [] w e = absurd (true≢false (sym w ∙ e))
-  goes a (b ∷ l) w e = (l, ap (λ (c : A). c ∷ l) (w .1), subst (λ (c : A). Walk f stop c l) (w .1) (w .2))
-
 walk-short : (P : Picture) (k x₀ y₀ : ℕ) (a : Dart) → length (walk P k x₀ y₀ a) ≤ k
 unfolding walk
 walk-short P zero x₀ y₀ a = omega arith
@@ -49,11 +39,7 @@ walk-short P (suc k) x₀ y₀ a = go (ending P x₀ y₀ a) (walk-short P k x�
     go false p = omega arith
 
 pub steps-low : (s : Size) (ls : List ℕ) (w : Walker) → Map s ls → length (stepsOf s ls w) ≤ 1073872900
-unfolding fuel picture
-steps-low s ls w m =
-    let a : 4 * (s .width + 1) ≤ 65540 = omega arith in
-    let b : s .height + 1 ≤ 16385 = omega arith in
-    omega (arith, mul-le-mul a b, walk-short (pic s ls) (fuel (pic s ls)) (w .x) (w .y) (dartOf w))
+steps-low s ls w m = omega (arith, fuel-low s ls m, walk-short (pic s ls) (fuel (pic s ls)) (w .x) (w .y) (dartOf w))
 
 -- what the code's test says
 pub stop-said : (P : Picture) (w c m : Walker) (a : Around) (r : Bool) → m ≡ movedOf c → a ≡ aroundOf P (m .x) (m .y)
@@ -127,7 +113,7 @@ module _ (s : Size) (ls work₀ points₀ : List ℕ) (at : ℕ) (w : Walker) wh
       going a q e =
           let P = pic s ls in
           let b = dartOf c in
-          let r = goes (following P) (ending P (w .x) (w .y)) b (o .more) (o .left) e in
+          let r = goes (following P) (ending P (w .x) (w .y)) b (following P b) (o .more) (o .left) refl e in
           let f = step-follows P c a q in
           record {
             done = o .done ++ (b ∷ []);

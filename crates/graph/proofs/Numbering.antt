@@ -250,14 +250,28 @@ all-numbered s ls work work′ n o =
       kept = o .kept;
     }
 
--- they stay where only the marks change
+-- they stay where their words do
+noded-same : {s : Size} {ls work work′ : List ℕ} {n : ℕ} → length work′ ≡ length work
+    → ((i : ℕ) → 2 * plane (s .width) (s .height) ≤ i → i < 5 * plane (s .width) (s .height) → getD work′ i 0 ≡ getD work i 0)
+    → Noded s ls work n → Noded s ls work′ n
+noded-same {s} {ls} {work} {work′} {n} l k o =
+    let few : n ≤ plane (s .width) (s .height) = omega (arith, o .count, nodes-few s ls) in
+    record {
+      count = o .count;
+      ids = λ x y at e. k _ (omega arith) (omega (arith, place-low (s .width) (s .height) x y (at .across) (at .down))) ∙ o .ids x y at e;
+      corners =
+          map-same (cornerIn s work′) (cornerIn s work) (upto n 0)
+          (λ i m. let h = upto-in n 0 i m .1 in ap₂ (λ (a b : ℕ). (a, b)) (k _ (omega arith) (omega arith)) (k _ (omega arith) (omega arith)))
+          ∙ o .corners;
+      planes = omega (arith, o .planes);
+    }
+
+-- where only the marks change, and where only later planes do
 pub noded-kept : {s : Size} {ls work work′ : List ℕ} {n : ℕ} → Kept 0 (2 * plane (s .width) (s .height)) work work′ → Noded s ls work n → Noded s ls work′ n
-noded-kept {s} {work} {work′} {n} k o = record {
-  count = o .count;
-  ids = λ x y at e. k .others _ (inr (omega arith)) ∙ o .ids x y at e;
-  corners = map-same (cornerIn s work′) (cornerIn s work) (upto n 0) (λ i m. ap₂ (λ (a b : ℕ). (a, b)) (k .others _ (inr (omega arith))) (k .others _ (inr (omega arith)))) ∙ o .corners;
-  planes = omega (arith, k .long, o .planes);
-}
+noded-kept k o = noded-same (k .long) (λ i a b. k .others i (inr a)) o
+
+pub noded-beyond : {s : Size} {ls work work′ : List ℕ} {n end : ℕ} → Kept (5 * plane (s .width) (s .height)) end work work′ → Noded s ls work n → Noded s ls work′ n
+noded-beyond k o = noded-same (k .long) (λ i a b. k .others i (inl b)) o
 
 -- a node by its number
 pub node-at : {s : Size} {ls work : List ℕ} {n : ℕ} → Noded s ls work n → (i : ℕ) → i < n → getD (nodes (pic s ls)) i (0, 0) ≡ cornerIn s work i

@@ -1,13 +1,13 @@
 -- The checks, one after the other: what each says when it hits, and what none of them leaves.
 use Prim.Native.Nat.{ℕ, _*_, _/_, _<_, _≤_}
 use mathlib.Core.Bool.{Bool, true, false}
-use mathlib.Core.Path.{_≡_, refl}
+use mathlib.Core.Path.{_≡_, refl, ap}
 use mathlib.Core.List.{List, [], _∷_, _++_}
 use native.Mathlib.Omega.{arith}
 use lib.ListN.{length}
 use borrow.Author.Tests.{lt-ltb, le-ltb, eq-eqb, ne-eqb, ltb-false}
-use Rattle.graph.specs.declared.Counts.{Counts}
-use Rattle.mosaic.specs.Counted.{GraphCounts}
+use Rattle.mosaic.specs.declared.Answer.{Answer}
+use Rattle.mosaic.specs.Outcome.{answerOf}
 use Rattle.rules.specs.Calls.{counted, Map, Check, firstHit, workWords, mapChecks, CutList, short, graphChecks}
 
 -- ANY CHECKS, each with a number above 0
@@ -116,7 +116,19 @@ module _ (a b c : ℕ) where
 
 -- OF THE GRAPH
 
-module _ (l : CutList) (c : Counts) (k : GraphCounts l c) (ns ss ps : List ℕ) where
+module _ (l : CutList) (a : Answer) (k : answerOf a ≡ counted 0 l) (ns ss ps : List ℕ) where
+  nodes-are : a .nodes ≡ length (l .nodes) / 6
+  unfolding counted
+  nodes-are = ap (λ b. b .nodes) k
+
+  segments-are : a .segments ≡ length (l .segments) / 8
+  unfolding counted
+  segments-are = ap (λ b. b .segments) k
+
+  points-are : a .points ≡ length (l .points) / 2
+  unfolding counted
+  points-are = ap (λ b. b .points) k
+
   abbrev s₁ : Bool
   s₁ = short 6 ns (l .nodes)
 
@@ -126,22 +138,22 @@ module _ (l : CutList) (c : Counts) (k : GraphCounts l c) (ns ss ps : List ℕ) 
   abbrev s₃ : Bool
   s₃ = short 2 ps (l .points)
 
-  pub few-nodes : length ns / 6 < c .nodes → 4 ≡ firstHit (graphChecks l ns ss ps)
-  unfolding graphChecks counted
-  few-nodes h = first-hits 4 5 6 s₁ s₂ s₃ (lacks 6 (c .nodes) ns (l .nodes) (k .nodes) h)
+  pub few-nodes : length ns / 6 < a .nodes → 4 ≡ firstHit (graphChecks l ns ss ps)
+  unfolding graphChecks
+  few-nodes h = first-hits 4 5 6 s₁ s₂ s₃ (lacks 6 (a .nodes) ns (l .nodes) nodes-are h)
 
-  module _ (hn : c .nodes ≤ length ns / 6) where
-    pub few-segments : length ss / 8 < c .segments → 5 ≡ firstHit (graphChecks l ns ss ps)
-    unfolding graphChecks counted
-    few-segments h = second-hits 4 5 6 s₁ s₂ s₃ (holds 6 (c .nodes) ns (l .nodes) (k .nodes) hn) (lacks 8 (c .segments) ss (l .segments) (k .segments) h)
+  module _ (hn : a .nodes ≤ length ns / 6) where
+    pub few-segments : length ss / 8 < a .segments → 5 ≡ firstHit (graphChecks l ns ss ps)
+    unfolding graphChecks
+    few-segments h = second-hits 4 5 6 s₁ s₂ s₃ (holds 6 (a .nodes) ns (l .nodes) nodes-are hn) (lacks 8 (a .segments) ss (l .segments) segments-are h)
 
-    module _ (hs : c .segments ≤ length ss / 8) where
-      pub few-points : length ps / 2 < c .points → 6 ≡ firstHit (graphChecks l ns ss ps)
-      unfolding graphChecks counted
+    module _ (hs : a .segments ≤ length ss / 8) where
+      pub few-points : length ps / 2 < a .points → 6 ≡ firstHit (graphChecks l ns ss ps)
+      unfolding graphChecks
       few-points h =
-          third-hits 4 5 6 s₁ s₂ s₃ (holds 6 (c .nodes) ns (l .nodes) (k .nodes) hn) (holds 8 (c .segments) ss (l .segments) (k .segments) hs) (lacks 2 (c .points) ps (l .points) (k .points) h)
+          third-hits 4 5 6 s₁ s₂ s₃ (holds 6 (a .nodes) ns (l .nodes) nodes-are hn) (holds 8 (a .segments) ss (l .segments) segments-are hs) (lacks 2 (a .points) ps (l .points) points-are h)
 
-      pub graph-room : c .points ≤ length ps / 2 → 0 ≡ firstHit (graphChecks l ns ss ps)
-      unfolding graphChecks counted
+      pub graph-room : a .points ≤ length ps / 2 → 0 ≡ firstHit (graphChecks l ns ss ps)
+      unfolding graphChecks
       graph-room h =
-          none-hits 4 5 6 s₁ s₂ s₃ (holds 6 (c .nodes) ns (l .nodes) (k .nodes) hn) (holds 8 (c .segments) ss (l .segments) (k .segments) hs) (holds 2 (c .points) ps (l .points) (k .points) h)
+          none-hits 4 5 6 s₁ s₂ s₃ (holds 6 (a .nodes) ns (l .nodes) nodes-are hn) (holds 8 (a .segments) ss (l .segments) segments-are hs) (holds 2 (a .points) ps (l .points) points-are h)

@@ -22,6 +22,20 @@ answerOf a =
       steps = a .steps;
     }
 
+-- the counts with another number
+abbrev pub withNumber : ℕ → Answer → Answer
+withNumber n a =
+    record {
+      number = n;
+      nodes = a .nodes;
+      segments = a .segments;
+      points = a .points;
+      references = a .references;
+      contours = a .contours;
+      faces = a .faces;
+      steps = a .steps;
+    }
+
 -- the answer, and every lent store afterwards, in the order of the parameters
 abbrev pub outcome : Answer → List (List ℕ) → Outcome
 outcome a stores = record { answer = answerOf a; stores = stores }

@@ -1,28 +1,43 @@
 -- What the steps of a call ask and leave.
-use Prim.Native.Nat.{ℕ, _*_, _≤_}
+use Prim.Native.Nat.{ℕ, _+_, _*_, _<_, _≤_}
 use mathlib.Core.Path.{_≡_}
 use mathlib.Core.List.{List}
-use lib.ListN.{length}
-use Rattle.rules.specs.Calls.{graphList, storeAfter}
+use lib.ListN.{length, getD}
+use Rattle.rules.specs.Picture.{OUTSIDE}
+use Rattle.rules.specs.Face.{labelOf, firsts}
+use Rattle.rules.specs.Calls.{graphList, cutList, counted, storeAfter}
 use Rattle.store.specs.Words.{Kept}
 use Rattle.lattice.specs.declared.Size.{Size}
+use Rattle.lattice.specs.Size.{pic}
 use Rattle.lattice.specs.Planes.{plane}
-use Rattle.graph.specs.declared.Counts.{Counts}
 use Rattle.graph.specs.Nodes.{Noded}
-use Rattle.mosaic.specs.Outcome.{mapOf}
-use Rattle.mosaic.specs.Counted.{GraphCounts}
+use Rattle.mosaic.specs.declared.Answer.{Answer}
+use Rattle.mosaic.specs.Outcome.{mapOf, answerOf}
+
+-- COUNTED
 
 -- the graph is counted; its nodes are numbered in the work store
-pub record GraphCounted (s : Size) (ls work work′ : List ℕ) (c : Counts) : Type 0 where
-  pub counts : GraphCounts (graphList (mapOf s ls)) c
-  pub noded : Noded s ls work′ (c .nodes)
+pub record GraphCounted (s : Size) (ls work work′ : List ℕ) (a : Answer) : Type 0 where
+  pub counts : answerOf a ≡ counted 0 (graphList (mapOf s ls))
+  pub noded : Noded s ls work′ (a .nodes)
   pub kept : Kept 0 (8 * plane (s .width) (s .height)) work work′
 
--- a store has room for words, where the number is 0
-abbrev pub Roomy : ℕ → List ℕ → List ℕ → Type 0
-Roomy n words store = n ≡ 0 → length words ≤ length store
+-- and its faces are, with the first pixel of each pixel's island in plane 5
+pub record AllCounted (s : Size) (ls work work′ : List ℕ) (a : Answer) : Type 0 where
+  pub counts : answerOf a ≡ counted 0 (cutList (mapOf s ls))
+  pub noded : Noded s ls work′ (a .nodes)
+  pub numbers :
+      (p : ℕ) → p < s .width * s .height → (labelOf (pic s ls) p ≡ OUTSIDE → ⊥) → getD work′ (5 * plane (s .width) (s .height) + p) 0 ≡ getD (firsts (pic s ls)) p 0
+  pub kept : Kept 0 (8 * plane (s .width) (s .height)) work work′
 
--- the graph is written where the number is 0
+-- WRITTEN, where the number is 0
+
+-- the stores have room for the graph, where the number is 0
+pub record GraphRoomy (s : Size) (ls : List ℕ) (n : ℕ) (ns ss ps : List ℕ) : Type 0 where
+  pub nodes : n ≡ 0 → length (graphList (mapOf s ls) .nodes) ≤ length ns
+  pub segments : n ≡ 0 → length (graphList (mapOf s ls) .segments) ≤ length ss
+  pub points : n ≡ 0 → length (graphList (mapOf s ls) .points) ≤ length ps
+
 pub record GraphWritten (s : Size) (ls : List ℕ) (n : ℕ) (work ns ss ps work′ ns′ ss′ ps′ : List ℕ) : Type 0 where
   pub nodes : ns′ ≡ storeAfter n (graphList (mapOf s ls) .nodes) ns
   pub segments : ss′ ≡ storeAfter n (graphList (mapOf s ls) .segments) ss

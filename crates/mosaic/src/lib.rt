@@ -1,18 +1,17 @@
 // The public calls: every map and every lent store is answered.
-use graph::Counts;
 use lattice::Size;
 ghost use mathlib.Core.Path.{_≡_};
 ghost use mathlib.Core.List.{[], _∷_};
 ghost use Prim.Native.Nat.{_*_, _≤_};
 ghost use lib.ListN.{length, replicate};
 ghost use lib.Seq.{sets};
-ghost use Rattle.rules.specs.Calls.{mapChecks, graphList, firstHit, refused, graph as graphOf};
+ghost use Rattle.rules.specs.Calls.{mapChecks, firstHit, refused, size as sizeOf, graph as graphOf};
 ghost use Rattle.lattice.specs.Size.{Map};
 ghost use Rattle.lattice.specs.Planes.{plane};
 ghost use Rattle.graph.specs.Nodes.{Noded};
 ghost use Rattle.mosaic.specs.Outcome.{mapOf, answerOf, outcome};
 ghost use Rattle.mosaic.specs.Counted.{GraphRoom};
-ghost use Rattle.mosaic.specs.Steps.{GraphCounted, Roomy, GraphWritten};
+ghost use Rattle.mosaic.specs.Steps.{GraphCounted, AllCounted, GraphRoomy, GraphWritten};
 
 // The number of document 01, then the seven counts.
 pub struct Answer {
@@ -64,16 +63,16 @@ fn check_map(s: Size, labels: &[u32], work: &[u32]) -> u32
 }
 
 // Of the words lent for nodes, segments and points: 4 to 6.
-fn check_graph(c: Counts, nodes: usize, segments: usize, points: usize) -> u32
-    ensures { λ r. ⌜ GraphRoom c nodes segments points r ⌝ }
+fn check_graph(a: Answer, nodes: usize, segments: usize, points: usize) -> u32
+    ensures { λ r. ⌜ GraphRoom a nodes segments points r ⌝ }
 {
-    if nodes / 6 < c.nodes as usize {
+    if nodes / 6 < a.nodes as usize {
         return 4;
     }
-    if segments / 8 < c.segments as usize {
+    if segments / 8 < a.segments as usize {
         return 5;
     }
-    if points / 2 < c.points as usize {
+    if points / 2 < a.points as usize {
         return 6;
     }
     0
@@ -90,14 +89,37 @@ fn clear(s: Size, work: &mut [u32])
 }
 
 // The graph's counts, without a word written.
-fn count_graph(s: Size, labels: &[u32], work: &mut [u32]) -> Counts
+fn count_graph(s: Size, labels: &[u32], work: &mut [u32]) -> Answer
     requires { ⌜ Map s (now labels) ⌝ ∗ ⌜ 8 * plane (s .width) (s .height) ≤ length (now work) ⌝ }
     ensures { λ r. ⌜ GraphCounted s (now (labels .entry)) (now (work .entry)) (now (work .exit)) r ⌝ }
 {
     let mut nodes = [0u32; 0];
     let mut segments = [0u32; 0];
     let mut points = [0u32; 0];
-    graph::extract(s, labels, work, &mut nodes, &mut segments, &mut points)
+    let c = graph::extract(s, labels, work, &mut nodes, &mut segments, &mut points);
+    Answer {
+        number: 0,
+        nodes: c.nodes,
+        segments: c.segments,
+        points: c.points,
+        references: 0,
+        contours: 0,
+        faces: 0,
+        steps: c.steps,
+    }
+}
+
+// All seven counts, without a word written.
+fn count_all(s: Size, labels: &[u32], work: &mut [u32]) -> Answer
+    requires { ⌜ Map s (now labels) ⌝ ∗ ⌜ 8 * plane (s .width) (s .height) ≤ length (now work) ⌝ }
+    ensures { λ r. ⌜ AllCounted s (now (labels .entry)) (now (work .entry)) (now (work .exit)) r ⌝ }
+{
+    let mut a = count_graph(s, labels, work);
+    let f = face::count(s, labels, work);
+    a.references = f.references;
+    a.contours = f.contours;
+    a.faces = f.faces;
+    a
 }
 
 // The graph into its stores, where the number says that they have room.
@@ -108,18 +130,30 @@ fn write_graph(
     nodes: &mut [u32],
     segments: &mut [u32],
     points: &mut [u32],
-    number: u32,
-    n: u32,
+    a: Answer,
 )
-    requires { ⌜ Map s (now labels) ⌝ ∗ ⌜ Noded s (now labels) (now work) n ⌝ ∗ ⌜ Roomy number (graphList (mapOf s (now labels)) .nodes) (now nodes) ⌝ ∗ ⌜ Roomy number (graphList (mapOf s (now labels)) .segments) (now segments) ⌝ ∗ ⌜ Roomy number (graphList (mapOf s (now labels)) .points) (now points) ⌝ }
-    ensures { λ _. ⌜ GraphWritten s (now (labels .entry)) number (now (work .entry)) (now (nodes .entry)) (now (segments .entry)) (now (points .entry)) (now (work .exit)) (now (nodes .exit)) (now (segments .exit)) (now (points .exit)) ⌝ }
+    requires { ⌜ Map s (now labels) ⌝ ∗ ⌜ Noded s (now labels) (now work) (a .nodes) ⌝ ∗ ⌜ GraphRoomy s (now labels) (a .number) (now nodes) (now segments) (now points) ⌝ }
+    ensures { λ _. ⌜ GraphWritten s (now (labels .entry)) (a .number) (now (work .entry)) (now (nodes .entry)) (now (segments .entry)) (now (points .entry)) (now (work .exit)) (now (nodes .exit)) (now (segments .exit)) (now (points .exit)) ⌝ }
 {
-    if number == 0 {
-        let _ = graph::trace(s, labels, work, nodes, segments, points, n);
+    if a.number == 0 {
+        let _ = graph::trace(s, labels, work, nodes, segments, points, a.nodes);
     }
 }
 
 // THE CALLS
+
+// The seven counts.
+pub fn size(s: Size, labels: &[u32], work: &mut [u32]) -> Answer
+    ensures { λ r. ⌜ outcome r (now (work .exit) ∷ []) ≡ sizeOf (mapOf s (now (labels .entry))) (now (work .entry)) ⌝ }
+{
+    let early = check_map(s, labels, work);
+    if early != 0 {
+        return refuse(early);
+    }
+    let a = count_all(s, labels, work);
+    clear(s, work);
+    a
+}
 
 // Nodes, segments and points.
 pub fn graph(
@@ -136,18 +170,10 @@ pub fn graph(
     if early != 0 {
         return refuse(early);
     }
-    let c = count_graph(s, labels, work);
-    let number = check_graph(c, nodes.len(), segments.len(), points.len());
-    write_graph(s, labels, work, nodes, segments, points, number, c.nodes);
+    let mut a = count_graph(s, labels, work);
+    let number = check_graph(a, nodes.len(), segments.len(), points.len());
+    a.number = number;
+    write_graph(s, labels, work, nodes, segments, points, a);
     clear(s, work);
-    Answer {
-        number,
-        nodes: c.nodes,
-        segments: c.segments,
-        points: c.points,
-        references: 0,
-        contours: 0,
-        faces: 0,
-        steps: c.steps,
-    }
+    a
 }

@@ -23,8 +23,8 @@ returns : tie.Need-returns
 returns c =
     let at-trace = c .before .before .before .before .before .before .before .before in
     let at-if1 = at-trace .before .before .before .before .before in
-    let start = at-if1 .before .before .before .before .before .before in
-    graph-written (at-if1 .if1 .taken) (start .pre .1 .1 .0) (start .pre .1 .1 .1 .0) (start .pre .1 .1 .1 .1) (at-trace .trace .ensures)
+    let start = at-if1 .before .before .before .before .before .before .before in
+    graph-written (at-if1 .if1 .taken) (start .pre .1 .1) (at-trace .trace .ensures)
 
 returns-2 : tie.Need-returns-2
 returns-2 c = graph-left (c .if1 .left)
