@@ -47,10 +47,11 @@ graph-roomy s ls ns ss ps n e = record { nodes = λ z. all z .0; segments = λ z
     all z =
         let F = framed s ls in
         let P = pictureOf (mapOf s ls) in
-        let a = all-miss 4 5 6 (short 6 ns (l .nodes)) (short 8 ss (l .segments)) (short 2 ps (l .points)) (omega arith) (omega arith) (omega arith) (sym e ∙ z) in
-        (omega (arith, room 6 ns (l .nodes) (a .0), length-nodes (segments P) (nodes P)),
+        let a = all-miss 4 5 6 (short 6 ns (l .nodes)) (short 8 ss (l .segments)) (short 2 ps (l .points)) (omega arith) (omega arith) (omega arith) (sym e ∙ z) in (
+          omega (arith, room 6 ns (l .nodes) (a .0), length-nodes (segments P) (nodes P)),
           omega (arith, room 8 ss (l .segments) (a .1), length-segments P 0 (segments P)),
-          omega (arith, room 2 ps (l .points) (a .2), length-points (segments P) (has-step F (describes F))))
+          omega (arith, room 2 ps (l .points) (a .2), length-points (segments P) (has-step F (describes F))),
+        )
 
 -- the counts with another number
 renumbered : (n : ℕ) (a : Answer) (l : CutList) → answerOf a ≡ counted 0 l → answerOf (withNumber n a) ≡ counted n l

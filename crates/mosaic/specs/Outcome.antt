@@ -1,13 +1,17 @@
 -- What a call took and what it left, as the rules have them.
 use Prim.Native.Nat.{ℕ}
-use mathlib.Core.List.{List}
+use mathlib.Core.List.{List, [], _∷_}
+use lib.ListN.{getD}
 use Rattle.rules.specs.Calls.{Map, Outcome}
 use Rattle.rules.specs.Calls.{Answer as RulesAnswer}
 use Rattle.lattice.specs.declared.Size.{Size}
 use Rattle.mosaic.specs.declared.Answer.{Answer}
 
+abbrev pub mapWith : ℕ → ℕ → ℕ → List ℕ → Map
+mapWith w h paints ls = record { width = w; height = h; paints = paints; labels = ls }
+
 abbrev pub mapOf : Size → List ℕ → Map
-mapOf s ls = record { width = s .width; height = s .height; paints = s .paints; labels = ls }
+mapOf s ls = mapWith (s .width) (s .height) (s .paints) ls
 
 abbrev pub answerOf : Answer → RulesAnswer
 answerOf a =
@@ -39,3 +43,25 @@ withNumber n a =
 -- the answer, and every lent store afterwards, in the order of the parameters
 abbrev pub outcome : Answer → List (List ℕ) → Outcome
 outcome a stores = record { answer = answerOf a; stores = stores }
+
+-- IN WORDS, as C programs have it
+
+abbrev pub answerWords : Answer → List ℕ
+answerWords a = a .number ∷ a .nodes ∷ a .segments ∷ a .points ∷ a .references ∷ a .contours ∷ a .faces ∷ a .steps ∷ []
+
+abbrev pub answered : List ℕ → List (List ℕ) → Outcome
+answered ws stores =
+    record {
+      answer =
+          record {
+            number = getD ws 0 0;
+            nodes = getD ws 1 0;
+            segments = getD ws 2 0;
+            points = getD ws 3 0;
+            references = getD ws 4 0;
+            contours = getD ws 5 0;
+            faces = getD ws 6 0;
+            steps = getD ws 7 0;
+          };
+      stores = stores;
+    }

@@ -9,7 +9,7 @@ ghost use Rattle.rules.specs.Calls.{mapChecks, firstHit, refused, size as sizeO
 ghost use Rattle.lattice.specs.Size.{Map};
 ghost use Rattle.lattice.specs.Planes.{plane};
 ghost use Rattle.graph.specs.Nodes.{Noded};
-ghost use Rattle.mosaic.specs.Outcome.{mapOf, answerOf, outcome};
+ghost use Rattle.mosaic.specs.Outcome.{mapOf, mapWith, answerOf, answerWords, outcome, answered};
 ghost use Rattle.mosaic.specs.Counted.{GraphRoom};
 ghost use Rattle.mosaic.specs.Steps.{GraphCounted, AllCounted, GraphRoomy, GraphWritten};
 
@@ -176,4 +176,62 @@ pub fn graph(
     write_graph(s, labels, work, nodes, segments, points, a);
     clear(s, work);
     a
+}
+
+// FOR C: a slice is a pointer and a length in words, the answer a pointer to eight words.
+
+fn put_answer(answer: &mut [u32; 8], a: Answer)
+    ensures { λ _. ⌜ now (answer .exit) ≡ answerWords a ⌝ }
+{
+    *answer = [
+        a.number,
+        a.nodes,
+        a.segments,
+        a.points,
+        a.references,
+        a.contours,
+        a.faces,
+        a.steps,
+    ];
+}
+
+#[no_mangle]
+pub extern "C" fn mosaic_size(
+    width: u32,
+    height: u32,
+    paints: u32,
+    labels: &[u32],
+    work: &mut [u32],
+    answer: &mut [u32; 8],
+)
+    ensures { λ _. ⌜ answered (now (answer .exit)) (now (work .exit) ∷ []) ≡ sizeOf (mapWith width height paints (now (labels .entry))) (now (work .entry)) ⌝ }
+{
+    let s = Size {
+        width,
+        height,
+        paints,
+    };
+    put_answer(answer, size(s, labels, work));
+}
+
+#[no_mangle]
+pub extern "C" fn mosaic_graph(
+    width: u32,
+    height: u32,
+    paints: u32,
+    labels: &[u32],
+    work: &mut [u32],
+    nodes: &mut [u32],
+    segments: &mut [u32],
+    points: &mut [u32],
+    answer: &mut [u32; 8],
+)
+    ensures { λ _. ⌜ answered (now (answer .exit)) (now (work .exit) ∷ now (nodes .exit) ∷ now (segments .exit) ∷ now (points .exit) ∷ []) ≡ graphOf (mapWith width height paints (now (labels .entry))) (now (work .entry)) (now (nodes .entry)) (now (segments .entry)) (now (points .entry)) ⌝ }
+{
+    let s = Size {
+        width,
+        height,
+        paints,
+    };
+    put_answer(answer, graph(s, labels, work, nodes, segments, points));
 }
