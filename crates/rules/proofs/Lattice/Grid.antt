@@ -33,13 +33,13 @@ in-rows m (suc n) y i j q l k = go (ℕ-discrete j y) (λ l. in-rows m n (suc y)
     go (yes e) f = rw e (in-left (rows m n (suc y)) (in-row m 0 y i (omega arith) (omega arith)))
     go (no n) f = in-right (row m 0 y) (f (omega arith))
 
-row-in : (n x y : ℕ) (c : ℕ × ℕ) → In c (row n x y) → (x ≤ c .0) × (c .0 < x + n) × (c .1 ≡ y)
+pub row-in : (n x y : ℕ) (c : ℕ × ℕ) → In c (row n x y) → (x ≤ c .0) × (c .0 < x + n) × (c .1 ≡ y)
 unfolding row
 row-in zero x y c i = absurd (not-nil i)
 row-in (suc n) x y c (here e) = let p = ap (λ c. c .0) e in (omega arith, omega arith, ap (λ c. c .1) e)
 row-in (suc n) x y c (there i) = let r = row-in n (suc x) y c i in (omega arith, omega arith, r .2)
 
-rows-in : (m n y : ℕ) (c : ℕ × ℕ) → In c (rows m n y) → (c .0 < m) × (y ≤ c .1) × (c .1 < y + n)
+pub rows-in : (m n y : ℕ) (c : ℕ × ℕ) → In c (rows m n y) → (c .0 < m) × (y ≤ c .1) × (c .1 < y + n)
 unfolding rows
 rows-in m zero y c i = absurd (not-nil i)
 rows-in m (suc n) y c i =

@@ -22,7 +22,7 @@ abbrev pub Closed : Picture → List Dart → Type 0
 Closed P l = (c : Dart) → crack P c ≡ true → On c l → meets P c ≡ false → On (following P c) l
 
 -- the cracks that leave nodes are on the list
-abbrev Nodes : Picture → List Dart → Type 0
+abbrev pub Nodes : Picture → List Dart → Type 0
 Nodes P l = (c : Dart) → crack P c ≡ true → node P (c .x) (c .y) ≡ true → On c l
 
 pub record Good (P : Picture) (ss : List (List Dart)) : Type 0 where
@@ -169,34 +169,34 @@ module _ {P : Picture} (F : Framed P) where
       go true p false q = let r = the-walk F a p in subst (λ s. Q (ss ++ (s ∷ []))) (sym (r .1)) (more (r .0) p (on-false a (flat ss) q) (r .2))
       go false p q r = same (λ c. absurd (false≢true (sym p ∙ c)))
 
-  visit-good : (ss : List (List Dart)) (a : Dart) → Good P ss → (node P (a .x) (a .y) ≡ true) ⊎ Nodes P (flat ss) → Good P (visit P ss a)
+  pub visit-good : (ss : List (List Dart)) (a : Dart) → Good P ss → (node P (a .x) (a .y) ≡ true) ⊎ Nodes P (flat ss) → Good P (visit P ss a)
   visit-good ss a g s = visit-elim (Good P) ss a (λ _. g) (λ m c n w. add-walk F g a c n m w s)
 
-  visit-keeps : (ss : List (List Dart)) (a c : Dart) → On c (flat ss) → On c (flat (visit P ss a))
+  pub visit-keeps : (ss : List (List Dart)) (a c : Dart) → On c (flat ss) → On c (flat (visit P ss a))
   visit-keeps ss a c o = visit-elim (λ rs. On c (flat rs)) ss a (λ _. o) (λ m _ _ _. subst (On c) (sym (flat-snoc ss (a ∷ m))) (on-left c (flat ss) (a ∷ m) o))
 
-  visit-holds : (ss : List (List Dart)) (a : Dart) → crack P a ≡ true → On a (flat (visit P ss a))
+  pub visit-holds : (ss : List (List Dart)) (a : Dart) → crack P a ≡ true → On a (flat (visit P ss a))
   visit-holds ss a c = visit-elim (λ rs. On a (flat rs)) ss a (λ f. f c) (λ m _ _ _. subst (On a) (sym (flat-snoc ss (a ∷ m))) (on-right a (flat ss) (a ∷ m) (inl (here refl))))
 
-  trace-good : (ds : List Dart) (ss : List (List Dart)) → Good P ss → ((a : Dart) → In a ds → (node P (a .x) (a .y) ≡ true) ⊎ Nodes P (flat ss)) → Good P (trace P ss ds)
+  pub trace-good : (ds : List Dart) (ss : List (List Dart)) → Good P ss → ((a : Dart) → In a ds → (node P (a .x) (a .y) ≡ true) ⊎ Nodes P (flat ss)) → Good P (trace P ss ds)
   unfolding trace
   trace-good [] ss g f = g
   trace-good (a ∷ ds) ss g f =
       trace-good ds (visit P ss a) (visit-good ss a g (f a (here refl)))
       (λ b i. ⊎-map (λ e. e) (λ (n : Nodes P (flat ss)) c k e. visit-keeps ss a c (n c k e)) (f b (there i)))
 
-  trace-keeps : (ds : List Dart) (ss : List (List Dart)) (c : Dart) → On c (flat ss) → On c (flat (trace P ss ds))
+  pub trace-keeps : (ds : List Dart) (ss : List (List Dart)) (c : Dart) → On c (flat ss) → On c (flat (trace P ss ds))
   unfolding trace
   trace-keeps [] ss c o = o
   trace-keeps (a ∷ ds) ss c o = trace-keeps ds (visit P ss a) c (visit-keeps ss a c o)
 
-  trace-holds : (ds : List Dart) (ss : List (List Dart)) (c : Dart) → In c ds → crack P c ≡ true → On c (flat (trace P ss ds))
+  pub trace-holds : (ds : List Dart) (ss : List (List Dart)) (c : Dart) → In c ds → crack P c ≡ true → On c (flat (trace P ss ds))
   unfolding trace
   trace-holds [] ss c i k = absurd (not-nil i)
   trace-holds (a ∷ ds) ss c (here e) k = trace-keeps ds (visit P ss a) c (on-path a c (flat (visit P ss a)) (sym e) (visit-holds ss a (ap (crack P) (sym e) ∙ k)))
   trace-holds (a ∷ ds) ss c (there i) k = trace-holds ds (visit P ss a) c i k
 
-  none-good : Good P []
+  pub none-good : Good P []
   unfolding flat
   none-good = record { segment = λ s i. absurd (not-nil i); cracked = λ c i. absurd (not-nil i); once = tt; closed = λ c k o e. absurd (⊎-elim not-nil not-nil o) }
 
