@@ -4,6 +4,7 @@ pub mod Growing
 pub mod Slots
 pub mod Along
 pub mod Numbering
+pub mod Listing
 pub mod Stages
 pub mod Outs
 pub mod Tracing

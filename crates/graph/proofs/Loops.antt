@@ -7,11 +7,12 @@ use native.Mathlib.Numerals.{add-one}
 use lib.ListN.{length, getD, drop, drop-of-length-le}
 use lib.Seq.{drop-cons}
 use Rattle.rules.specs.Lists.{flat, upto}
-use Rattle.rules.specs.Picture.{Picture, picture, Dart, dart}
+use Rattle.rules.specs.Picture.{Picture, E, Dart, dart}
+use Rattle.rules.proofs.Tracing.Bends.{easts}
+use Rattle.graph.specs.Nodes.{bends}
 use Rattle.rules.specs.Graph.{row, rows, corners, nodes, out}
 use Rattle.rules.proofs.Ground.Lists.{flat-singles, length-upto, at-upto}
 use Rattle.lattice.specs.declared.Size.{Size}
-use Rattle.lattice.specs.Size.{pic}
 use Rattle.lattice.specs.Dirs.{dir}
 use Rattle.lattice.proofs.Ways.{by-four}
 use Rattle.graph.specs.Todo.{Due, Does}
@@ -80,30 +81,16 @@ unfolding rows upto flat
 rows-flat m zero y = refl
 rows-flat m (suc n) y = ap (λ (l : List (ℕ × ℕ)). row m 0 y ++ l) (rows-flat m n (suc y))
 
-out-append : (k l : List (ℕ × ℕ)) → out (k ++ l) ≡ out k ++ out l
-unfolding out
-out-append [] l = refl
-out-append (c ∷ k) l = ap (λ (m : List Dart). out (c ∷ []) ++ m) (out-append k l)
-
 pub out-flat : (cs : List (ℕ × ℕ)) → out cs ≡ flat (map (λ c. out (c ∷ [])) cs)
 unfolding out flat
 out-flat [] = refl
 out-flat (c ∷ cs) = ap (λ (l : List Dart). out (c ∷ []) ++ l) (out-flat cs)
-
-pub out-rows : (m n y : ℕ) → out (rows m n y) ≡ flat (map (λ y. out (row m 0 y)) (upto n y))
-unfolding rows upto flat out
-out-rows m zero y = refl
-out-rows m (suc n) y = out-append (row m 0 y) (rows m n (suc y)) ∙ ap (λ (l : List Dart). out (row m 0 y) ++ l) (out-rows m n (suc y))
 
 -- THE COURSES of classify and trace
 
 -- each member by itself
 abbrev singly : {A : Type 0} → List A → Course A A
 singly l = record { items = l; each = λ a. a ∷ []; whole = l; is = sym (flat-singles l) }
-
--- the ways out of each corner
-abbrev outOf : List (ℕ × ℕ) → Course (ℕ × ℕ) Dart
-outOf cs = record { items = cs; each = λ c. out (c ∷ []); whole = out cs; is = out-flat cs }
 
 module _ (s : Size) where
   abbrev pub cornersOfRow : ℕ → Course (ℕ × ℕ) (ℕ × ℕ)
@@ -117,27 +104,26 @@ module _ (s : Size) where
     is = rows-flat (suc (s .width)) (suc (s .height)) 0;
   }
 
-  abbrev pub waysOfRow : ℕ → Course (ℕ × ℕ) Dart
-  waysOfRow y = outOf (row (suc (s .width)) 0 y)
-
-  abbrev pub rowsOfWays : Course ℕ Dart
-  rowsOfWays = record {
-    items = upto (suc (s .height)) 0;
-    each = λ y. out (row (suc (s .width)) 0 y);
-    whole = out (rows (suc (s .width)) (suc (s .height)) 0);
-    is = out-rows (suc (s .width)) (suc (s .height)) 0;
-  }
-
 -- the four ways out of a corner
 abbrev pub waysOf : ℕ → ℕ → Course Dart Dart
 waysOf x y = singly (out ((x, y) ∷ []))
 
+-- those of each node
 abbrev pub waysOfNodes : Picture → Course (ℕ × ℕ) Dart
-waysOfNodes P = outOf (nodes P)
+waysOfNodes P = record { items = nodes P; each = λ c. out (c ∷ []); whole = out (nodes P); is = out-flat (nodes P) }
 
-pub corners-are : (s : Size) (ls : List ℕ) → corners (pic s ls) ≡ rows (suc (s .width)) (suc (s .height)) 0
-unfolding corners picture
-corners-are s ls = refl
+-- the way E of each bend
+easts-flat : (cs : List (ℕ × ℕ)) → map (λ c. dart (c .0) (c .1) E) cs ≡ flat (map (λ c. dart (c .0) (c .1) E ∷ []) cs)
+unfolding flat
+easts-flat [] = refl
+easts-flat (c ∷ cs) = ap (λ (l : List Dart). dart (c .0) (c .1) E ∷ l) (easts-flat cs)
+
+pub easts-are : (P : Picture) → easts P (corners P) ≡ flat (map (λ c. dart (c .0) (c .1) E ∷ []) (bends P))
+unfolding easts
+easts-are P = easts-flat (bends P)
+
+abbrev pub eastsOfBends : Picture → Course (ℕ × ℕ) Dart
+eastsOfBends P = record { items = bends P; each = λ c. dart (c .0) (c .1) E ∷ []; whole = easts P (corners P); is = easts-are P }
 
 -- where a row ends, and where the rows end
 pub row-over : (w x y : ℕ) → w < x → length (row (suc w) 0 y) ≤ x

@@ -7,13 +7,15 @@ use native.Mathlib.Omega.{arith}
 use lib.ListN.{length, getD, length-append}
 use lib.Seq.{sets, length-sets}
 use Rattle.rules.specs.Lists.{flat}
-use Rattle.rules.specs.Picture.{Picture, picture, rightOf, Dart, dart, crack, one}
-use Rattle.rules.specs.Graph.{on, trace, nodes, out, segments}
+use Rattle.rules.specs.Picture.{Picture, picture, rightOf, Dart, crack}
+use Rattle.rules.specs.Graph.{on, trace, corners, nodes, segments}
 use Rattle.rules.specs.Records.{pointWords, pointRecords, segmentWords}
 use Rattle.rules.proofs.Ground.Booleans.{both}
-use Rattle.rules.proofs.Ground.Lists.{flat-snoc, in-at}
+use Rattle.rules.proofs.Ground.Lists.{flat-snoc, in-at, keep-in}
 use Rattle.rules.proofs.Tracing.Walks.{the-walk}
 use Rattle.rules.proofs.CutList.Lengths.{length-segments}
+use Rattle.rules.proofs.Lattice.Grid.{corners-in}
+use Rattle.rules.proofs.Tracing.Bends.{bend}
 use Rattle.store.specs.Words.{Kept}
 use Rattle.store.proofs.Writes.{sets-more, kept-then}
 use Rattle.lattice.specs.declared.Size.{Size}
@@ -22,24 +24,27 @@ use Rattle.lattice.specs.declared.Walker.{Walker}
 use Rattle.lattice.specs.declared.RegionId.{RegionId}
 use Rattle.lattice.specs.Size.{Corner, pic}
 use Rattle.lattice.specs.Planes.{plane}
-use Rattle.lattice.specs.Around.{aroundOf, leftIn, crackIn, maskIn}
+use Rattle.lattice.specs.Around.{aroundOf, leftIn, crackIn}
 use Rattle.lattice.specs.Dirs.{dir}
 use Rattle.lattice.specs.Walker.{dartOf}
 use Rattle.lattice.proofs.Ways.{crack-in, code-small}
 use Rattle.lattice.proofs.Frame.{framed}
 use Rattle.graph.specs.declared.Counts.{Counts}
+use Rattle.graph.specs.declared.Found.{Found}
 use Rattle.graph.specs.declared.Walked.{Walked}
 use Rattle.graph.specs.declared.Joined.{Joined}
-use Rattle.graph.specs.Planes.{marked, cornerIn}
+use Rattle.graph.specs.Planes.{marked, unpacked, cornersAt}
 use Rattle.graph.specs.Walk.{stepsOf, reached, endOf, Starts, Went}
 use Rattle.graph.specs.Words.{Ended, Linked}
-use Rattle.graph.specs.Todo.{Does}
-use Rattle.graph.specs.Nodes.{Noded}
+use Rattle.graph.specs.Todo.{Due, Does}
+use Rattle.graph.specs.Nodes.{Noded, Tallied}
 use Rattle.graph.specs.Stage.{State, state, Stage}
 use Rattle.graph.proofs.Growing.{length-reached, length-more, points-more, segments-more}
 use Rattle.graph.proofs.Slots.{crack-inside}
 use Rattle.graph.proofs.Along.{walk-points}
-use Rattle.graph.proofs.Numbering.{nodes-few, nodes-in, node-at, noded-kept}
+use Rattle.graph.proofs.Numbering.{nodes-in, nodes-few}
+use Rattle.graph.proofs.Listing.{bends-few, corner-nth, noded-kept}
+use Rattle.graph.proofs.Loops.{Course, Through, due, goes, waysOfNodes, eastsOfBends}
 use Rattle.graph.proofs.Stages.{visit-old, visit-new, trace-adds, few, entries-more, length-entries, end-corner, marks-kept, seen-more, made, record-made}
 
 -- LENGTHS STAY
@@ -61,7 +66,7 @@ same-lengths s ls o k l t t′ a b = record {
 -- ONE SEGMENT MORE
 
 abbrev pub counted : Counts → ℕ → Counts
-counted c n = record { nodes = c .nodes; segments = c .segments + 1; points = c .points + n + 1; steps = c .steps + n }
+counted c n = record { nodes = c .nodes; bends = c .bends; segments = c .segments + 1; points = c .points + n + 1; steps = c .steps + n }
 
 module _ (s : Size) (ls : List ℕ) (o : State) (todo : List Dart) (work nodes₁ segs points : List ℕ) (c : Counts) (w : Walker) (st : Stage s ls o (dartOf w ∷ todo) (state work nodes₁ segs points c)) where
   -- a dart that starts nothing
@@ -77,6 +82,7 @@ module _ (s : Size) (ls : List ℕ) (o : State) (todo : List Dart) (work nodes�
     records = st .records;
     corners = st .corners;
     words = st .words;
+    tallied = st .tallied;
     segs = st .segs;
     pts = st .pts;
     steps = st .steps;
@@ -134,7 +140,7 @@ module _ (s : Size) (ls : List ℕ) (o : State) (todo : List Dart) (work nodes�
       marked-now : Kept 0 (2 * plane (s .width) (s .height)) work work′
       marked-now = marks-kept s ls w h work work′ (went .words) (omega (arith, st .noded .planes))
 
-      noded-now : Noded s ls work′ (c .nodes)
+      noded-now : Noded s ls work′
       noded-now = noded-kept marked-now (st .noded)
 
       -- what `join` asks
@@ -182,29 +188,11 @@ module _ (s : Size) (ls : List ℕ) (o : State) (todo : List Dart) (work nodes�
               records = sets-more (o .segments) segs segs′ (8 * c .segments) (segmentWords P 0 (st .ss)) (c .points ∷ (e .steps + 1) ∷ j .start .0 ∷ j .end .0 ∷ l .0 ∷ r .0 ∷ w .d ∷ j .last ∷ []) (segmentWords P 0 (st .ss ++ (k ∷ []))) (st .records) (omega (arith, length-segments P 0 (st .ss), st .segs)) (segments-more P 0 (st .ss) k ∙ rw (← i) (ap (λ (v : List ℕ). segmentWords P 0 (st .ss) ++ v) rec)) recorded;
               corners = sets-more (o .points) points points′ (2 * c .points) (pointWords (st .ss)) (w .x ∷ w .y ∷ reached k) (pointWords (st .ss ++ (k ∷ []))) (st .corners) (sym (st .words)) points-all points-behind;
               words = omega (arith, ap length points-all, length-append (pointWords (st .ss)) (w .x ∷ w .y ∷ reached k), length-reached k, st .words, went .count);
+              tallied = st .tallied;
               segs = omega (arith, length-more (st .ss) k, st .segs);
               pts = omega (arith, length-more (st .ss) k, flat-length, st .pts, went .count);
               steps = omega (arith, flat-length, st .steps, went .count);
             }
-
--- THE DARTS OF A CORNER
-
--- a corner with no cracks starts nothing
-pub quiet : (s : Size) (ls : List ℕ) (x y : ℕ) (t : State) → maskIn (aroundOf (pic s ls) x y) ≡ 0 → Does (Stage s ls) (out ((x, y) ∷ [])) t t
-unfolding out
-quiet s ls x y t e o rest q = no 3 _ (omega arith) (no 2 _ (omega arith) (no 1 _ (omega arith) (no 0 _ (omega arith) q)))
-  where
-    A : Around
-    A = aroundOf (pic s ls) x y
-
-    uncracked : (b : Bool) → one b ≡ 0 → b ≡ false
-    uncracked true e = absurd (omega arith)
-    uncracked false e = refl
-
-    no : (d : ℕ) (l : List Dart) → one (crackIn A (dir d)) ≡ 0 → Stage s ls o (dart x y (dir d) ∷ l) t → Stage s ls o l t
-    no d l z k =
-        let f : crack (pic s ls) (dart x y (dir d)) ≡ false = sym (crack-in (pic s ls) x y (dir d)) ∙ uncracked (crackIn A (dir d)) z in
-        no-segment s ls o l (t .work) (t .nodes) (t .segments) (t .points) (t .counts) (record { x = x; y = y; d = d }) k (rw f)
 
 pub around-crack : (P : Picture) (a : Around) (w : Walker) → a ≡ aroundOf P (w .x) (w .y) → crackIn a (dir (w .d)) ≡ crack P (dartOf w)
 around-crack P a w e = ap (λ (a : Around). crackIn a (dir (w .d))) e ∙ crack-in P (w .x) (w .y) (dir (w .d))
@@ -216,24 +204,55 @@ same-then a b = record { work = b .work ∙ a .work; nodes = b .nodes ∙ a .nod
 pub same-none : {t : State} → Same t t
 same-none = record { work = refl; nodes = refl; segments = refl; points = refl }
 
--- THE CORNER OF A NODE that is next
+-- A LOOP THROUGH A LIST OF CORNERS that stands in the work words from `at` on
 
-module _ {s : Size} {ls : List ℕ} {o : State} {todo : List Dart} {t : State} (st : Stage s ls o todo t) (i : ℕ) (h : i < length (nodes (pic s ls))) where
-  pub node-low : i < plane (s .width) (s .height)
-  node-low = omega (arith, nodes-few s ls)
+pub record Standing (s : Size) (ls : List ℕ) (L : Course (ℕ × ℕ) Dart) (at last : ℕ) : Type 0 where
+  pub stands : (work : List ℕ) → Noded s ls work → cornersAt work at (length (L .items)) ≡ L .items
+  pub inside : (c : ℕ × ℕ) → In c (L .items) → (c .0 ≤ s .width) × (c .1 ≤ s .height)
+  pub few : length (L .items) ≤ plane (s .width) (s .height)
+  pub room : at + plane (s .width) (s .height) ≤ 5 * plane (s .width) (s .height)
+  pub count : last ≡ length (L .items)
 
-  -- as it stands in the work words
-  its-corner : getD (nodes (pic s ls)) i (0, 0) ≡ cornerIn s (t .work) i
-  its-corner = node-at (st .noded) i (omega (arith, st .noded .count))
+module _ {s : Size} {ls : List ℕ} {f : Found} (k : Tallied s ls f) (at p : ℕ) (e : p ≡ plane (s .width) (s .height)) where
+  pub nodes-standing : at ≡ 3 * p → Standing s ls (waysOfNodes (pic s ls)) at (f .nodes)
+  unfolding picture
+  nodes-standing q = record { stands = λ work o. rw (q, e) (o .corners); inside = nodes-in (pic s ls); few = nodes-few s ls; room = omega arith; count = k .nodes }
 
-  module _ (x y : ℕ) (ex : x ≡ cornerIn s (t .work) i .0) (ey : y ≡ cornerIn s (t .work) i .1) where
-    pub corner-next : getD (nodes (pic s ls)) i (0, 0) ≡ (x, y)
-    corner-next = its-corner ∙ ap₂ (λ (a b : ℕ). (a, b)) (sym ex) (sym ey)
+  pub bends-standing : at ≡ 4 * p → Standing s ls (eastsOfBends (pic s ls)) at (f .bends)
+  unfolding picture
+  bends-standing q = record {
+    stands = λ work o. rw (q, e) (o .bent-corners);
+    inside = λ c i. corners-in (pic s ls) c (keep-in (bend (pic s ls)) (corners (pic s ls)) c i .0);
+    few = bends-few s ls;
+    room = omega arith;
+    count = k .bends;
+  }
 
-    -- it is a corner of the frame
-    pub corner-inside : Corner s x y
-    unfolding picture
-    corner-inside =
-        let c = subst (λ (c : ℕ × ℕ). In c (nodes (pic s ls))) corner-next (in-at (nodes (pic s ls)) i (0, 0) h) in
-        let k = nodes-in (pic s ls) (x, y) c in
+-- the pass n of the loop, from the state t on
+module _ {s : Size} {ls : List ℕ} {L : Course (ℕ × ℕ) Dart} {at last : ℕ} (S : Standing s ls L at last) (t₀ t : State) (n : ℕ) (r : Through L (Stage s ls) t₀ t n) (h : n < last) (d : Due (Stage s ls) (L .whole) t₀) where
+  noded-here : Noded s ls (t .work)
+  noded-here = r (d .o) (d .rest) (d .now) .noded
+
+  pub word-in : at + n < length (t .work)
+  word-in = omega (arith, noded-here .planes, S .room, S .few, S .count)
+
+  module _ (x y : ℕ) (ex : x ≡ unpacked (getD (t .work) (at + n) 0) .0) (ey : y ≡ unpacked (getD (t .work) (at + n) 0) .1) where
+    item-low : n < length (L .items)
+    item-low = omega (arith, S .count)
+
+    item-is : getD (L .items) n (0, 0) ≡ (x, y)
+    item-is =
+        ap (λ (l : List (ℕ × ℕ)). getD l n (0, 0)) (sym (S .stands (t .work) noded-here))
+        ∙ corner-nth (t .work) at (length (L .items)) n item-low
+        ∙ ap₂ (λ (a b : ℕ). (a, b)) (sym ex) (sym ey)
+
+    pub corner-here : Corner s x y
+    corner-here =
+        let k = S .inside (x, y) (subst (λ (c : ℕ × ℕ). In c (L .items)) item-is (in-at (L .items) n (0, 0) item-low)) in
         record { across = k .0; down = k .1 }
+
+    pub due-here : Due (Stage s ls) (L .each (x, y)) t
+    due-here = due L (Stage s ls) (0, 0) (x, y) n item-low item-is t₀ t r d
+
+    pub done-here : (t′ : State) → Does (Stage s ls) (L .each (x, y)) t t′ → Through L (Stage s ls) t₀ t′ (n + 1)
+    done-here t′ g = goes L (Stage s ls) (0, 0) (x, y) n item-low item-is t₀ t t′ r g

@@ -1,6 +1,6 @@
 -- The planes of the work words that extraction uses: marks of walked E edges, of walked S edges, the number of the node at each corner, and the
--- corner of each node, by number.
-use Prim.Native.Nat.{ℕ, pred, _+_, _*_, _≤_, _<_}
+-- corners of nodes and of bends, by number.
+use Prim.Native.Nat.{ℕ, pred, _+_, _*_, _/_, _%_, _≤_, _<_}
 use mathlib.Core.Bool.{Bool, not}
 use mathlib.Core.Path.{_≡_}
 use mathlib.Core.List.{List, [], _∷_, map}
@@ -8,7 +8,6 @@ use lib.Dec.{eqb}
 use lib.ListN.{getD, set}
 use Rattle.rules.specs.Lists.{upto}
 use Rattle.rules.specs.Picture.{Dir, N, E, S, W, Dart}
-use Rattle.lattice.specs.declared.Size.{Size}
 use Rattle.lattice.specs.Planes.{plane, place}
 
 -- MARKS
@@ -40,22 +39,26 @@ pub record Inside (w h : ℕ) (a : Dart) : Type 0 where
   pub south : a .d ≡ S → a .y < h
   pub west : a .d ≡ W → 0 < a .x
 
--- NODES
+-- NODES AND BENDS
 
 -- the word of the number of the node at a corner
 abbrev pub idSlot : ℕ → ℕ → ℕ → ℕ → ℕ
 idSlot w h x y = 2 * plane w h + place w x y
 
--- the words of the corner of a node
-abbrev pub xSlot : ℕ → ℕ → ℕ → ℕ
-xSlot w h n = 3 * plane w h + n
+-- the words of the corners of nodes and of bends, by number
+abbrev pub nodeSlot : ℕ → ℕ → ℕ → ℕ
+nodeSlot w h n = 3 * plane w h + n
 
-abbrev pub ySlot : ℕ → ℕ → ℕ → ℕ
-ySlot w h n = 4 * plane w h + n
+abbrev pub bendSlot : ℕ → ℕ → ℕ → ℕ
+bendSlot w h n = 4 * plane w h + n
 
-abbrev pub cornerIn : Size → List ℕ → ℕ → ℕ × ℕ
-cornerIn s work n = (getD work (xSlot (s .width) (s .height) n) 0, getD work (ySlot (s .width) (s .height) n) 0)
+-- a corner in one word
+abbrev pub packed : ℕ → ℕ → ℕ
+packed x y = y * 65536 + x
 
--- the corners of the first n nodes
-abbrev pub cornersIn : Size → List ℕ → ℕ → List (ℕ × ℕ)
-cornersIn s work n = map (cornerIn s work) (upto n 0)
+abbrev pub unpacked : ℕ → ℕ × ℕ
+unpacked p = (p % 65536, p / 65536)
+
+-- n corners from a place on
+abbrev pub cornersAt : List ℕ → ℕ → ℕ → List (ℕ × ℕ)
+cornersAt work at n = map (λ i. unpacked (getD work (at + i) 0)) (upto n 0)

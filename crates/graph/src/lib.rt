@@ -15,26 +15,20 @@ ghost use lib.ListN.{length, set, getD};
 ghost use lib.Seq.{sets};
 ghost use lib.Dec.{eqb};
 ghost use Rattle.rules.specs.Graph.{row, corners, nodes as nodesOf, out};
+ghost use Rattle.rules.proofs.Tracing.Bends.{easts};
 ghost use Rattle.rules.specs.Records.{nodeWords};
 ghost use Rattle.lattice.specs.Size.{Sides, Map, Corner, pic};
 ghost use Rattle.lattice.specs.Planes.{plane};
 ghost use Rattle.lattice.specs.Walker.{Edge, dartOf};
-ghost use Rattle.lattice.specs.Around.{aroundOf, crackIn, nodeIn};
+ghost use Rattle.lattice.specs.Around.{aroundOf, crackIn, maskIn, nodeIn};
 ghost use Rattle.lattice.specs.Dirs.{dir};
-ghost use Rattle.graph.specs.Planes.{idSlot, xSlot, ySlot, slot, marked, cornersIn};
+ghost use Rattle.graph.specs.Planes.{idSlot, nodeSlot, bendSlot, packed, unpacked, slot, marked, cornersAt};
 ghost use Rattle.graph.specs.Walk.{Starts, Went};
 ghost use Rattle.graph.specs.Words.{nodeWord, segmentWord, Ended, Linked};
 ghost use Rattle.graph.specs.Todo.{Due, Does};
-ghost use Rattle.graph.specs.Nodes.{numbering, Numbered, Named, Noded, Classified};
+ghost use Rattle.graph.specs.Nodes.{listing, Listed, Lists, Noded, Tallied, Classified};
 ghost use Rattle.graph.specs.Stage.{state, Stage};
 ghost use Rattle.graph.specs.Extracted.{Extracted};
-
-pub struct Counts {
-    pub nodes: u32,
-    pub segments: u32,
-    pub points: u32,
-    pub steps: u32,
-}
 
 // Where a walk came to, with its last heading and its number of steps.
 pub struct Walked {
@@ -62,13 +56,28 @@ pub struct Segment {
     pub arrives: u32,
 }
 
+// A corner.
 pub struct Point {
     pub x: u32,
     pub y: u32,
 }
 
+// How many nodes there are, and how many bends: corners with an E and an S crack and no other. A ring starts at a bend.
+pub struct Found {
+    pub nodes: u32,
+    pub bends: u32,
+}
+
+pub struct Counts {
+    pub nodes: u32,
+    pub bends: u32,
+    pub segments: u32,
+    pub points: u32,
+    pub steps: u32,
+}
+
 // THE WORK STORE, in planes of a word for each corner: marks of walked E and W edges in plane 0, of S and N edges in plane 1, the number of the
-// node at each corner in plane 2, and x and y of each node, by number, in planes 3 and 4.
+// node at each corner in plane 2, the corners of the nodes, by number, in plane 3, and those of the bends in plane 4.
 
 // The work word of the edge ahead of w.
 fn edge_slot(s: Size, w: Walker) -> usize
@@ -111,30 +120,36 @@ fn node_id(s: Size, work: &[u32], x: u32, y: u32) -> NodeId
     NodeId(store::at(work, i))
 }
 
-// The corner of the node n.
-fn node_corner(s: Size, work: &[u32], n: NodeId) -> Point
-    requires { ⌜ Sides s ⌝ ∗ ⌜ n .0 < plane (s .width) (s .height) ⌝ ∗ ⌜ 5 * plane (s .width) (s .height) ≤ length (now work) ⌝ }
-    ensures { λ r. ⌜ (r .x ≡ getD (now (work .entry)) (xSlot (s .width) (s .height) (n .0)) 0) × (r .y ≡ getD (now (work .entry)) (ySlot (s .width) (s .height) (n .0)) 0) ⌝ }
+// The corner that the word i holds.
+fn corner_at(work: &[u32], i: usize) -> Point
+    requires { ⌜ i < length (now work) ⌝ }
+    ensures { λ r. ⌜ (r .x ≡ unpacked (getD (now (work .entry)) i 0) .0) × (r .y ≡ unpacked (getD (now (work .entry)) i 0) .1) ⌝ }
 {
-    let p = lattice::plane(s);
-    let i = n.0 as usize;
+    let p = store::at(work, i);
     Point {
-        x: store::at(work, 3 * p + i),
-        y: store::at(work, 4 * p + i),
+        x: p % 65536,
+        y: p / 65536,
     }
 }
 
 // The node n is at (x, y).
-fn number(s: Size, work: &mut [u32], n: NodeId, x: u32, y: u32)
+fn list_node(s: Size, work: &mut [u32], n: NodeId, x: u32, y: u32)
     requires { ⌜ Sides s ⌝ ∗ ⌜ Corner s x y ⌝ ∗ ⌜ n .0 < plane (s .width) (s .height) ⌝ ∗ ⌜ 5 * plane (s .width) (s .height) ≤ length (now work) ⌝ }
-    ensures { λ _. ⌜ now (work .exit) ≡ set (set (set (now (work .entry)) (idSlot (s .width) (s .height) x y) (n .0)) (xSlot (s .width) (s .height) (n .0)) x) (ySlot (s .width) (s .height) (n .0)) y ⌝ }
+    ensures { λ _. ⌜ now (work .exit) ≡ set (set (now (work .entry)) (idSlot (s .width) (s .height) x y) (n .0)) (nodeSlot (s .width) (s .height) (n .0)) (packed x y) ⌝ }
 {
     let p = lattice::plane(s);
-    let i = n.0 as usize;
     let at = 2 * p + lattice::corner_index(s, x, y);
     work[at] = n.0;
-    work[3 * p + i] = x;
-    work[4 * p + i] = y;
+    work[3 * p + (n.0 as usize)] = y * 65536 + x;
+}
+
+// The bend n is at (x, y).
+fn list_bend(s: Size, work: &mut [u32], n: u32, x: u32, y: u32)
+    requires { ⌜ Sides s ⌝ ∗ ⌜ Corner s x y ⌝ ∗ ⌜ n < plane (s .width) (s .height) ⌝ ∗ ⌜ 5 * plane (s .width) (s .height) ≤ length (now work) ⌝ }
+    ensures { λ _. ⌜ now (work .exit) ≡ set (now (work .entry)) (bendSlot (s .width) (s .height) n) (packed x y) ⌝ }
+{
+    let p = lattice::plane(s);
+    work[4 * p + (n as usize)] = y * 65536 + x;
 }
 
 // Whether a walk from w stops at m, with the labels a around it.
@@ -200,14 +215,14 @@ fn put_node(nodes: &mut [u32], n: NodeId, x: u32, y: u32)
     store::put4(nodes, i + 2, NONE, NONE, NONE, NONE);
 }
 
-// The records of the first n nodes, whose corners stand in the work store.
-fn put_nodes(s: Size, work: &[u32], nodes: &mut [u32], n: u32)
-    requires { ⌜ Sides s ⌝ ∗ ⌜ n ≤ plane (s .width) (s .height) ⌝ ∗ ⌜ 5 * plane (s .width) (s .height) ≤ length (now work) ⌝ }
-    ensures { λ _. ⌜ now (nodes .exit) ≡ sets (now (nodes .entry)) 0 (nodeWords [] (cornersIn s (now (work .entry)) n)) ⌝ }
+// The records of the first n nodes, whose corners stand in the work store from `at` on.
+fn put_nodes(work: &[u32], at: usize, nodes: &mut [u32], n: u32)
+    requires { ⌜ at + n ≤ length (now work) ⌝ }
+    ensures { λ _. ⌜ now (nodes .exit) ≡ sets (now (nodes .entry)) 0 (nodeWords [] (cornersAt (now (work .entry)) at n)) ⌝ }
 {
     let mut i: u32 = 0;
     while i < n {
-        let p = node_corner(s, work, NodeId(i));
+        let p = corner_at(work, at + (i as usize));
         put_node(nodes, NodeId(i), p.x, p.y);
         i += 1;
     }
@@ -266,27 +281,37 @@ fn join(
     }
 }
 
-// CLASSIFY: the nodes and their numbers, row by row.
+// CLASSIFY: the nodes and the bends, row by row.
 
-// The corner (x, y), with the labels a around it, as a node if it is one, where n come before it.
-fn classify_corner(s: Size, a: Around, work: &mut [u32], n: u32, x: u32, y: u32) -> u32
-    requires { ⌜ Sides s ⌝ ∗ ⌜ Corner s x y ⌝ ∗ ⌜ (nodeIn a ≡ true → n < plane (s .width) (s .height)) ⌝ ∗ ⌜ 5 * plane (s .width) (s .height) ≤ length (now work) ⌝ }
-    ensures { λ r. ⌜ Named s a x y (numbering (now (work .entry)) n) (numbering (now (work .exit)) r) ⌝ }
+// The corner (x, y), with the labels a around it, listed if it is a node or a bend, after those of f.
+fn classify_corner(s: Size, a: Around, work: &mut [u32], f: Found, x: u32, y: u32) -> Found
+    requires { ⌜ Sides s ⌝ ∗ ⌜ Corner s x y ⌝ ∗ ⌜ (nodeIn a ≡ true → f .nodes < plane (s .width) (s .height)) ⌝ ∗ ⌜ (maskIn a ≡ 6 → f .bends < plane (s .width) (s .height)) ⌝ ∗ ⌜ 5 * plane (s .width) (s .height) ≤ length (now work) ⌝ }
+    ensures { λ r. ⌜ Lists s a x y (listing (now (work .entry)) f) (listing (now (work .exit)) r) ⌝ }
 {
-    if a.node() {
-        number(s, work, NodeId(n), x, y);
-        return n + 1;
+    if a.edge_mask() == 6 {
+        list_bend(s, work, f.bends, x, y);
+        return Found {
+            nodes: f.nodes,
+            bends: f.bends + 1,
+        };
     }
-    n
+    if a.node() {
+        list_node(s, work, NodeId(f.nodes), x, y);
+        return Found {
+            nodes: f.nodes + 1,
+            bends: f.bends,
+        };
+    }
+    f
 }
 
-fn classify_row(s: Size, labels: &[u32], work: &mut [u32], n: u32, y: u32) -> u32
-    requires { ⌜ Map s (now labels) ⌝ ∗ ⌜ y ≤ s .height ⌝ ∗ ⌜ Due (Numbered s (now labels)) (row (suc (s .width)) 0 y) (numbering (now work) n) ⌝ }
-    ensures { λ r. ⌜ Does (Numbered s (now (labels .entry))) (row (suc (s .width)) 0 y) (numbering (now (work .entry)) n) (numbering (now (work .exit)) r) ⌝ }
+fn classify_row(s: Size, labels: &[u32], work: &mut [u32], f: Found, y: u32) -> Found
+    requires { ⌜ Map s (now labels) ⌝ ∗ ⌜ y ≤ s .height ⌝ ∗ ⌜ Due (Listed s (now labels)) (row (suc (s .width)) 0 y) (listing (now work) f) ⌝ }
+    ensures { λ r. ⌜ Does (Listed s (now (labels .entry))) (row (suc (s .width)) 0 y) (listing (now (work .entry)) f) (listing (now (work .exit)) r) ⌝ }
 {
     let last = s.width;
     let mut a = lattice::look(s, labels, 0, y);
-    let mut k = n;
+    let mut k = f;
     let mut x: u32 = 0;
     while x <= last {
         k = classify_corner(s, a, work, k, x, y);
@@ -296,13 +321,13 @@ fn classify_row(s: Size, labels: &[u32], work: &mut [u32], n: u32, y: u32) -> u3
     k
 }
 
-// All nodes: their numbers and corners in the work store. How many there are.
-pub fn classify(s: Size, labels: &[u32], work: &mut [u32]) -> u32
+// All nodes and bends: their numbers and corners in the work store. How many there are.
+fn classify(s: Size, labels: &[u32], work: &mut [u32]) -> Found
     requires { ⌜ Map s (now labels) ⌝ ∗ ⌜ 5 * plane (s .width) (s .height) ≤ length (now work) ⌝ }
     ensures { λ r. ⌜ Classified s (now (labels .entry)) (now (work .entry)) (now (work .exit)) r ⌝ }
 {
     let last = s.height;
-    let mut k: u32 = 0;
+    let mut k = Found { nodes: 0, bends: 0 };
     let mut y: u32 = 0;
     while y <= last {
         k = classify_row(s, labels, work, k, y);
@@ -363,6 +388,7 @@ fn trace_segment(
     put_segment(segments, SegId(c.segments), g);
     Counts {
         nodes: c.nodes,
+        bends: c.bends,
         segments: c.segments + 1,
         points: c.points + e.steps + 1,
         steps: c.steps + e.steps,
@@ -427,11 +453,12 @@ fn trace_segments(
     requires { ⌜ Map s (now labels) ⌝ ∗ ⌜ Due (Stage s (now labels)) (out (nodesOf (pic s (now labels)))) (state (now work) (now nodes) (now segments) (now points) c) ⌝ }
     ensures { λ r. ⌜ Does (Stage s (now (labels .entry))) (out (nodesOf (pic s (now (labels .entry))))) (state (now (work .entry)) (now (nodes .entry)) (now (segments .entry)) (now (points .entry)) c) (state (now (work .exit)) (now (nodes .exit)) (now (segments .exit)) (now (points .exit)) r) ⌝ }
 {
+    let at = 3 * lattice::plane(s);
     let last = c.nodes;
     let mut k = c;
     let mut n: u32 = 0;
     while n < last {
-        let p = node_corner(s, work, NodeId(n));
+        let p = corner_at(work, at + (n as usize));
         let a = lattice::look(s, labels, p.x, p.y);
         k = trace_ways(s, a, labels, work, nodes, segments, points, k, p.x, p.y);
         n += 1;
@@ -439,54 +466,7 @@ fn trace_segments(
     k
 }
 
-// The rings that start at the corner (x, y). A corner without cracks costs one look.
-fn trace_corner(
-    s: Size,
-    a: Around,
-    labels: &[u32],
-    work: &mut [u32],
-    nodes: &mut [u32],
-    segments: &mut [u32],
-    points: &mut [u32],
-    c: Counts,
-    x: u32,
-    y: u32,
-) -> Counts
-    requires { ⌜ Map s (now labels) ⌝ ∗ ⌜ a ≡ aroundOf (pic s (now labels)) x y ⌝ ∗ ⌜ Due (Stage s (now labels)) (out ((x, y) ∷ [])) (state (now work) (now nodes) (now segments) (now points) c) ⌝ }
-    ensures { λ r. ⌜ Does (Stage s (now (labels .entry))) (out ((x, y) ∷ [])) (state (now (work .entry)) (now (nodes .entry)) (now (segments .entry)) (now (points .entry)) c) (state (now (work .exit)) (now (nodes .exit)) (now (segments .exit)) (now (points .exit)) r) ⌝ }
-{
-    if a.edge_mask() == 0 {
-        return c;
-    }
-    trace_ways(s, a, labels, work, nodes, segments, points, c, x, y)
-}
-
-fn trace_row(
-    s: Size,
-    labels: &[u32],
-    work: &mut [u32],
-    nodes: &mut [u32],
-    segments: &mut [u32],
-    points: &mut [u32],
-    c: Counts,
-    y: u32,
-) -> Counts
-    requires { ⌜ Map s (now labels) ⌝ ∗ ⌜ y ≤ s .height ⌝ ∗ ⌜ Due (Stage s (now labels)) (out (row (suc (s .width)) 0 y)) (state (now work) (now nodes) (now segments) (now points) c) ⌝ }
-    ensures { λ r. ⌜ Does (Stage s (now (labels .entry))) (out (row (suc (s .width)) 0 y)) (state (now (work .entry)) (now (nodes .entry)) (now (segments .entry)) (now (points .entry)) c) (state (now (work .exit)) (now (nodes .exit)) (now (segments .exit)) (now (points .exit)) r) ⌝ }
-{
-    let last = s.width;
-    let mut a = lattice::look(s, labels, 0, y);
-    let mut k = c;
-    let mut x: u32 = 0;
-    while x <= last {
-        k = trace_corner(s, a, labels, work, nodes, segments, points, k, x, y);
-        a = lattice::look_east(s, labels, a, x, y);
-        x += 1;
-    }
-    k
-}
-
-// What is left: the rings, row by row.
+// What is left: the rings, each from the E crack of its first bend.
 fn trace_rings(
     s: Size,
     labels: &[u32],
@@ -496,21 +476,29 @@ fn trace_rings(
     points: &mut [u32],
     c: Counts,
 ) -> Counts
-    requires { ⌜ Map s (now labels) ⌝ ∗ ⌜ Due (Stage s (now labels)) (out (corners (pic s (now labels)))) (state (now work) (now nodes) (now segments) (now points) c) ⌝ }
-    ensures { λ r. ⌜ Does (Stage s (now (labels .entry))) (out (corners (pic s (now (labels .entry))))) (state (now (work .entry)) (now (nodes .entry)) (now (segments .entry)) (now (points .entry)) c) (state (now (work .exit)) (now (nodes .exit)) (now (segments .exit)) (now (points .exit)) r) ⌝ }
+    requires { ⌜ Map s (now labels) ⌝ ∗ ⌜ Due (Stage s (now labels)) (easts (pic s (now labels)) (corners (pic s (now labels)))) (state (now work) (now nodes) (now segments) (now points) c) ⌝ }
+    ensures { λ r. ⌜ Does (Stage s (now (labels .entry))) (easts (pic s (now (labels .entry))) (corners (pic s (now (labels .entry))))) (state (now (work .entry)) (now (nodes .entry)) (now (segments .entry)) (now (points .entry)) c) (state (now (work .exit)) (now (nodes .exit)) (now (segments .exit)) (now (points .exit)) r) ⌝ }
 {
-    let last = s.height;
+    let at = 4 * lattice::plane(s);
+    let last = c.bends;
     let mut k = c;
-    let mut y: u32 = 0;
-    while y <= last {
-        k = trace_row(s, labels, work, nodes, segments, points, k, y);
-        y += 1;
+    let mut n: u32 = 0;
+    while n < last {
+        let p = corner_at(work, at + (n as usize));
+        let a = lattice::look(s, labels, p.x, p.y);
+        let w = Walker {
+            x: p.x,
+            y: p.y,
+            d: 1,
+        };
+        k = trace_dart(s, a, labels, work, nodes, segments, points, k, w);
+        n += 1;
     }
     k
 }
 
-// The graph of a map whose n nodes are numbered in the work store. Planes 0 and 1 are used, whatever they hold; the numbers stay, so that the
-// graph can be counted first and then written.
+// The graph of a map whose nodes and bends f are listed in the work store. Planes 0 and 1 are used, whatever they hold; the lists stay, so that
+// the graph can be counted first and then written.
 pub fn trace(
     s: Size,
     labels: &[u32],
@@ -518,15 +506,17 @@ pub fn trace(
     nodes: &mut [u32],
     segments: &mut [u32],
     points: &mut [u32],
-    n: u32,
+    f: Found,
 ) -> Counts
-    requires { ⌜ Map s (now labels) ⌝ ∗ ⌜ Noded s (now labels) (now work) n ⌝ }
+    requires { ⌜ Map s (now labels) ⌝ ∗ ⌜ Noded s (now labels) (now work) ⌝ ∗ ⌜ Tallied s (now labels) f ⌝ }
     ensures { λ r. ⌜ Extracted s (now (labels .entry)) 2 (now (work .entry)) (now (nodes .entry)) (now (segments .entry)) (now (points .entry)) (now (work .exit)) (now (nodes .exit)) (now (segments .exit)) (now (points .exit)) r ⌝ }
 {
-    store::fill(work, 0, 2 * lattice::plane(s), 0);
-    put_nodes(s, work, nodes, n);
+    let p = lattice::plane(s);
+    store::fill(work, 0, 2 * p, 0);
+    put_nodes(work, 3 * p, nodes, f.nodes);
     let c = Counts {
-        nodes: n,
+        nodes: f.nodes,
+        bends: f.bends,
         segments: 0,
         points: 0,
         steps: 0,
@@ -547,6 +537,6 @@ pub fn extract(
     requires { ⌜ Map s (now labels) ⌝ ∗ ⌜ 5 * plane (s .width) (s .height) ≤ length (now work) ⌝ }
     ensures { λ r. ⌜ Extracted s (now (labels .entry)) 5 (now (work .entry)) (now (nodes .entry)) (now (segments .entry)) (now (points .entry)) (now (work .exit)) (now (nodes .exit)) (now (segments .exit)) (now (points .exit)) r ⌝ }
 {
-    let n = classify(s, labels, work);
-    trace(s, labels, work, nodes, segments, points, n)
+    let f = classify(s, labels, work);
+    trace(s, labels, work, nodes, segments, points, f)
 }

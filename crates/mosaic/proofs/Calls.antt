@@ -16,9 +16,10 @@ use Rattle.lattice.specs.declared.Size.{Size}
 use Rattle.lattice.specs.Size.{Map as LabelledMap}
 use Rattle.lattice.specs.Planes.{plane}
 use Rattle.lattice.proofs.Frame.{framed}
+use Rattle.graph.specs.declared.Counts.{Counts}
 use Rattle.mosaic.specs.declared.Answer.{Answer}
-use Rattle.mosaic.specs.Outcome.{mapOf, answerOf, withNumber, outcome}
-use Rattle.mosaic.specs.Steps.{GraphCounted, AllCounted, GraphRoomy, GraphWritten}
+use Rattle.mosaic.specs.Outcome.{mapOf, answerOf, graphAnswer, withNumber, outcome}
+use Rattle.mosaic.specs.Steps.{CountsGraph, CountsFaces, GraphRoomy, GraphWritten}
 use Rattle.mosaic.proofs.Checks.{room, all-miss}
 use Rattle.mosaic.proofs.Outcomes.{Late, first, Passed, passed, refused-answer, refused-work, refused-store, number-late, accepted-answer, accepted-work, work-words, work-cleared}
 
@@ -88,13 +89,13 @@ module _ (s : Size) (ls work : List ℕ) where
       let worked = sym (refused-work m work [] n) ∙ ap (λ (cs : List Check). workAfter m (firstHit cs) work) none in
       λ i. record { answer = answered i; stores = worked i ∷ [] }
 
-  pub size-answered : (a : Answer) (work₁ work₂ : List ℕ) → first m work ≡ 0 → AllCounted s ls work work₁ a
-      → work₂ ≡ sets work₁ 0 (replicate (8 * plane (s .width) (s .height)) 0) → outcome a (work₂ ∷ []) ≡ size m work
+  pub size-answered : (a : Answer) (c : Counts) (work₁ work₂ work₃ : List ℕ) → first m work ≡ 0 → CountsGraph s ls work work₁ c → CountsFaces s ls work₁ c work₂ a
+      → work₃ ≡ sets work₂ 0 (replicate (8 * plane (s .width) (s .height)) 0) → outcome a (work₃ ∷ []) ≡ size m work
   unfolding size firstHit
-  size-answered a work₁ work₂ z k f =
+  size-answered a c work₁ work₂ work₃ z g k f =
       let none = append-nil (mapChecks m work) in
       let answered = k .counts ∙ sym (accepted-answer m work [] tt z (cutList m)) ∙ ap (λ (cs : List Check). answer (firstHit cs) (cutList m)) none in
-      let worked = work-left work₁ work₂ z (k .kept) f ∙ sym (accepted-work m work [] tt z) ∙ ap (λ (cs : List Check). workAfter m (firstHit cs) work) none in
+      let worked = work-left work₂ work₃ z (kept-then (g .1) (k .kept)) f ∙ sym (accepted-work m work [] tt z) ∙ ap (λ (cs : List Check). workAfter m (firstHit cs) work) none in
       λ i. record { answer = answered i; stores = worked i ∷ [] }
 
   -- GRAPH
@@ -108,21 +109,22 @@ module _ (s : Size) (ls work : List ℕ) where
         rw (refused-answer m work ds n cut, refused-work m work ds n, refused-store m work ds n (cut .nodes) ns, refused-store m work ds n (cut .segments) ss, refused-store m work ds n (cut .points) ps)
         (ap (λ (a : RulesAnswer). record { answer = a; stores = work ∷ ns ∷ ss ∷ ps ∷ [] }) e)
 
-    pub graph-answered : (n : ℕ) (a : Answer) (work₁ work₂ work₃ ns′ ss′ ps′ : List ℕ)
+    pub graph-answered : (n : ℕ) (a : Answer) (c : Counts) (work₁ work₂ work₃ ns′ ss′ ps′ : List ℕ)
         → first m work ≡ 0
-        → GraphCounted s ls work work₁ a
+        → a ≡ graphAnswer c
+        → CountsGraph s ls work work₁ c
         → n ≡ firstHit (graphChecks (graphList m) ns ss ps)
         → GraphWritten s ls n work₁ ns ss ps work₂ ns′ ss′ ps′
         → work₃ ≡ sets work₂ 0 (replicate (8 * plane (s .width) (s .height)) 0)
         → outcome (withNumber n a) (work₃ ∷ ns′ ∷ ss′ ∷ ps′ ∷ []) ≡ graph m work ns ss ps
     unfolding graph graphChecks
-    graph-answered n a work₁ work₂ work₃ ns′ ss′ ps′ z k e w f =
+    graph-answered n a c work₁ work₂ work₃ ns′ ss′ ps′ z g k e w f =
         let cut = graphList m in
         let ds = graphChecks cut ns ss ps in
         let late : Late ds = (omega arith, (omega arith, (omega arith, tt))) in
         let same : n ≡ firstHit (mapChecks m work ++ ds) = e ∙ sym (number-late m work ds late z) in
-        let answered = renumbered n a cut (k .counts) ∙ ap (λ (n : ℕ). counted n cut) e ∙ sym (accepted-answer m work ds late z cut) in
-        let worked = work-left work₂ work₃ z (kept-then (k .kept) (w .kept)) f ∙ sym (accepted-work m work ds late z) in
+        let answered = renumbered n a cut (ap answerOf g ∙ k .0 .counts) ∙ ap (λ (n : ℕ). counted n cut) e ∙ sym (accepted-answer m work ds late z cut) in
+        let worked = work-left work₂ work₃ z (kept-then (k .1) (w .kept)) f ∙ sym (accepted-work m work ds late z) in
         let noded = w .nodes ∙ ap (λ (n : ℕ). storeAfter n (cut .nodes) ns) same in
         let segmented = w .segments ∙ ap (λ (n : ℕ). storeAfter n (cut .segments) ss) same in
         let pointed = w .points ∙ ap (λ (n : ℕ). storeAfter n (cut .points) ps) same in

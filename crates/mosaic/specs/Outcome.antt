@@ -5,6 +5,7 @@ use lib.ListN.{getD}
 use Rattle.rules.specs.Calls.{Map, Outcome}
 use Rattle.rules.specs.Calls.{Answer as RulesAnswer}
 use Rattle.lattice.specs.declared.Size.{Size}
+use Rattle.graph.specs.declared.Counts.{Counts}
 use Rattle.mosaic.specs.declared.Answer.{Answer}
 
 abbrev pub mapWith : ℕ → ℕ → ℕ → List ℕ → Map
@@ -25,6 +26,10 @@ answerOf a =
       faces = a .faces;
       steps = a .steps;
     }
+
+-- the counts of a graph, and none of faces
+abbrev pub graphAnswer : Counts → Answer
+graphAnswer c = record { number = 0; nodes = c .nodes; segments = c .segments; points = c .points; references = 0; contours = 0; faces = 0; steps = c .steps }
 
 -- the counts with another number
 abbrev pub withNumber : ℕ → Answer → Answer

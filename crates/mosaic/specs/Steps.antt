@@ -10,22 +10,26 @@ use Rattle.store.specs.Words.{Kept}
 use Rattle.lattice.specs.declared.Size.{Size}
 use Rattle.lattice.specs.Size.{pic}
 use Rattle.lattice.specs.Planes.{plane}
-use Rattle.graph.specs.Nodes.{Noded}
+use Rattle.graph.specs.declared.Counts.{Counts}
+use Rattle.graph.specs.Nodes.{Noded, Tallied, foundOf}
 use Rattle.mosaic.specs.declared.Answer.{Answer}
-use Rattle.mosaic.specs.Outcome.{mapOf, answerOf}
+use Rattle.mosaic.specs.Outcome.{mapOf, answerOf, graphAnswer}
 
 -- COUNTED
 
--- the graph is counted; its nodes are numbered in the work store
-pub record GraphCounted (s : Size) (ls work work′ : List ℕ) (a : Answer) : Type 0 where
-  pub counts : answerOf a ≡ counted 0 (graphList (mapOf s ls))
-  pub noded : Noded s ls work′ (a .nodes)
-  pub kept : Kept 0 (8 * plane (s .width) (s .height)) work work′
+-- the graph is counted; its nodes and bends stand in the work store
+pub record GraphCounted (s : Size) (ls work : List ℕ) (c : Counts) : Type 0 where
+  pub counts : answerOf (graphAnswer c) ≡ counted 0 (graphList (mapOf s ls))
+  pub noded : Noded s ls work
+  pub tallied : Tallied s ls (foundOf c)
+
+abbrev pub CountsGraph : Size → List ℕ → List ℕ → List ℕ → Counts → Type 0
+CountsGraph s ls work work′ c = GraphCounted s ls work′ c × Kept 0 (8 * plane (s .width) (s .height)) work work′
 
 -- and its faces are, with the first pixel of each pixel's island in plane 5
-pub record AllCounted (s : Size) (ls work work′ : List ℕ) (a : Answer) : Type 0 where
+pub record CountsFaces (s : Size) (ls work : List ℕ) (c : Counts) (work′ : List ℕ) (a : Answer) : Type 0 where
   pub counts : answerOf a ≡ counted 0 (cutList (mapOf s ls))
-  pub noded : Noded s ls work′ (a .nodes)
+  pub graph : GraphCounted s ls work′ c
   pub numbers :
       (p : ℕ) → p < s .width * s .height → (labelOf (pic s ls) p ≡ OUTSIDE → ⊥) → getD work′ (5 * plane (s .width) (s .height) + p) 0 ≡ getD (firsts (pic s ls)) p 0
   pub kept : Kept 0 (8 * plane (s .width) (s .height)) work work′

@@ -1,4 +1,6 @@
 // The public calls: every map and every lent store is answered.
+use graph::Counts;
+use graph::Found;
 use lattice::Size;
 ghost use mathlib.Core.Path.{_≡_};
 ghost use mathlib.Core.List.{[], _∷_};
@@ -8,10 +10,9 @@ ghost use lib.Seq.{sets};
 ghost use Rattle.rules.specs.Calls.{mapChecks, firstHit, refused, size as sizeOf, graph as graphOf};
 ghost use Rattle.lattice.specs.Size.{Map};
 ghost use Rattle.lattice.specs.Planes.{plane};
-ghost use Rattle.graph.specs.Nodes.{Noded};
-ghost use Rattle.mosaic.specs.Outcome.{mapOf, mapWith, answerOf, answerWords, outcome, answered};
+ghost use Rattle.mosaic.specs.Outcome.{mapOf, mapWith, answerOf, graphAnswer, answerWords, outcome, answered};
 ghost use Rattle.mosaic.specs.Counted.{GraphRoom};
-ghost use Rattle.mosaic.specs.Steps.{GraphCounted, AllCounted, GraphRoomy, GraphWritten};
+ghost use Rattle.mosaic.specs.Steps.{GraphCounted, CountsGraph, CountsFaces, GraphRoomy, GraphWritten};
 
 // The number of document 01, then the seven counts.
 pub struct Answer {
@@ -89,14 +90,20 @@ fn clear(s: Size, work: &mut [u32])
 }
 
 // The graph's counts, without a word written.
-fn count_graph(s: Size, labels: &[u32], work: &mut [u32]) -> Answer
+fn count_graph(s: Size, labels: &[u32], work: &mut [u32]) -> Counts
     requires { ⌜ Map s (now labels) ⌝ ∗ ⌜ 8 * plane (s .width) (s .height) ≤ length (now work) ⌝ }
-    ensures { λ r. ⌜ GraphCounted s (now (labels .entry)) (now (work .entry)) (now (work .exit)) r ⌝ }
+    ensures { λ r. ⌜ CountsGraph s (now (labels .entry)) (now (work .entry)) (now (work .exit)) r ⌝ }
 {
     let mut nodes = [0u32; 0];
     let mut segments = [0u32; 0];
     let mut points = [0u32; 0];
-    let c = graph::extract(s, labels, work, &mut nodes, &mut segments, &mut points);
+    graph::extract(s, labels, work, &mut nodes, &mut segments, &mut points)
+}
+
+// The answer to a map whose graph has the counts c.
+fn answer_graph(c: Counts) -> Answer
+    ensures { λ r. ⌜ r ≡ graphAnswer c ⌝ }
+{
     Answer {
         number: 0,
         nodes: c.nodes,
@@ -109,20 +116,20 @@ fn count_graph(s: Size, labels: &[u32], work: &mut [u32]) -> Answer
     }
 }
 
-// All seven counts, without a word written.
-fn count_all(s: Size, labels: &[u32], work: &mut [u32]) -> Answer
-    requires { ⌜ Map s (now labels) ⌝ ∗ ⌜ 8 * plane (s .width) (s .height) ≤ length (now work) ⌝ }
-    ensures { λ r. ⌜ AllCounted s (now (labels .entry)) (now (work .entry)) (now (work .exit)) r ⌝ }
+// The counts of the faces beside the graph's.
+fn count_faces(s: Size, labels: &[u32], work: &mut [u32], c: Counts) -> Answer
+    requires { ⌜ Map s (now labels) ⌝ ∗ ⌜ 8 * plane (s .width) (s .height) ≤ length (now work) ⌝ ∗ ⌜ GraphCounted s (now labels) (now work) c ⌝ }
+    ensures { λ r. ⌜ CountsFaces s (now (labels .entry)) (now (work .entry)) c (now (work .exit)) r ⌝ }
 {
-    let mut a = count_graph(s, labels, work);
     let f = face::count(s, labels, work);
+    let mut a = answer_graph(c);
     a.references = f.references;
     a.contours = f.contours;
     a.faces = f.faces;
     a
 }
 
-// The graph into its stores, where the number says that they have room.
+// The graph with the counts c into its stores, where the number says that they have room.
 fn write_graph(
     s: Size,
     labels: &[u32],
@@ -130,13 +137,18 @@ fn write_graph(
     nodes: &mut [u32],
     segments: &mut [u32],
     points: &mut [u32],
-    a: Answer,
+    c: Counts,
+    number: u32,
 )
-    requires { ⌜ Map s (now labels) ⌝ ∗ ⌜ Noded s (now labels) (now work) (a .nodes) ⌝ ∗ ⌜ GraphRoomy s (now labels) (a .number) (now nodes) (now segments) (now points) ⌝ }
-    ensures { λ _. ⌜ GraphWritten s (now (labels .entry)) (a .number) (now (work .entry)) (now (nodes .entry)) (now (segments .entry)) (now (points .entry)) (now (work .exit)) (now (nodes .exit)) (now (segments .exit)) (now (points .exit)) ⌝ }
+    requires { ⌜ Map s (now labels) ⌝ ∗ ⌜ GraphCounted s (now labels) (now work) c ⌝ ∗ ⌜ GraphRoomy s (now labels) number (now nodes) (now segments) (now points) ⌝ }
+    ensures { λ _. ⌜ GraphWritten s (now (labels .entry)) number (now (work .entry)) (now (nodes .entry)) (now (segments .entry)) (now (points .entry)) (now (work .exit)) (now (nodes .exit)) (now (segments .exit)) (now (points .exit)) ⌝ }
 {
-    if a.number == 0 {
-        let _ = graph::trace(s, labels, work, nodes, segments, points, a.nodes);
+    if number == 0 {
+        let f = Found {
+            nodes: c.nodes,
+            bends: c.bends,
+        };
+        let _ = graph::trace(s, labels, work, nodes, segments, points, f);
     }
 }
 
@@ -150,7 +162,8 @@ pub fn size(s: Size, labels: &[u32], work: &mut [u32]) -> Answer
     if early != 0 {
         return refuse(early);
     }
-    let a = count_all(s, labels, work);
+    let c = count_graph(s, labels, work);
+    let a = count_faces(s, labels, work, c);
     clear(s, work);
     a
 }
@@ -170,10 +183,11 @@ pub fn graph(
     if early != 0 {
         return refuse(early);
     }
-    let mut a = count_graph(s, labels, work);
+    let c = count_graph(s, labels, work);
+    let mut a = answer_graph(c);
     let number = check_graph(a, nodes.len(), segments.len(), points.len());
     a.number = number;
-    write_graph(s, labels, work, nodes, segments, points, a);
+    write_graph(s, labels, work, nodes, segments, points, c, number);
     clear(s, work);
     a
 }

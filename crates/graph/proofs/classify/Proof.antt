@@ -4,22 +4,22 @@ use mathlib.Core.List.{[]}
 use mathlib.Core.Path.{_≡_, refl, _∙_}
 use native.Mathlib.Omega.{arith}
 use lib.ListN.{length}
-use Rattle.graph.specs.Nodes.{numbering, Numbered}
+use Rattle.graph.specs.Nodes.{listing, Listed}
 use Rattle.graph.proofs.Loops.{Through, begin, due, goes, done, rowsOfCorners, number-at, rows-under, rows-over}
-use Rattle.graph.proofs.Numbering.{none-numbered, all-numbered}
+use Rattle.graph.proofs.Listing.{none-listed, all-listed}
 use Rattle.graph.proofs.classify.Statement.{statement}
 use Rattle.graph.proofs.classify.Tie as tie
 
 abbrev Inv-loop : tie.InvT-loop
 Inv-loop s labels work₀ last k₀ y₀ work k y =
     (y ≤ s .height + 1) × (length work ≡ length work₀)
-    × Through (rowsOfCorners s) (Numbered s labels) (numbering work₀ 0) (numbering work k) y
+    × Through (rowsOfCorners s) (Listed s labels) (listing work₀ (record { nodes = 0; bends = 0 })) (listing work k) y
 
 abbrev μ-loop : tie.MeasureT-loop
 μ-loop s labels work₀ last k₀ y₀ work k y = s .height + 1 - y
 
 loop-holds : tie.Need-loop-holds Inv-loop μ-loop
-loop-holds c = let a = c .before .before .args in (omega arith, refl, begin (rowsOfCorners (a .s)) (Numbered (a .s) (a .labels .now)) _)
+loop-holds c = let a = c .before .before .args in (omega arith, refl, begin (rowsOfCorners (a .s)) (Listed (a .s) (a .labels .now)) _)
 
 classify-row-requires : tie.Need-classify-row-requires Inv-loop μ-loop
 classify-row-requires c κs =
@@ -30,8 +30,8 @@ classify-row-requires c κs =
       start .pre .0,
       (
         y,
-        due (rowsOfCorners (a .s)) (Numbered (a .s) (a .labels .now)) 0 (l .y) (l .y) (rows-under (a .s .height) (l .y) y) (number-at (suc (a .s .height)) (l .y) (omega arith)) _ _ (l .inv .2)
-            (record { o = a .work .now; rest = []; now = none-numbered (a .s) (a .labels .now) (a .work .now) (start .pre .1) }),
+        due (rowsOfCorners (a .s)) (Listed (a .s) (a .labels .now)) 0 (l .y) (l .y) (rows-under (a .s .height) (l .y) y) (number-at (suc (a .s .height)) (l .y) (omega arith)) _ _ (l .inv .2)
+            (record { o = a .work .now; rest = []; now = none-listed (a .s) (a .labels .now) (a .work .now) (start .pre .1) }),
       ),
     )
 
@@ -55,7 +55,7 @@ loop-again c =
     let called = c .before .before .classify-row in (
       omega (arith, y),
       called .kept .1 .1 .0 ∙ l .inv .1,
-      goes (rowsOfCorners (a .s)) (Numbered (a .s) (a .labels .now)) 0 (l .y) (l .y) (rows-under (a .s .height) (l .y) y) (number-at (suc (a .s .height)) (l .y) (omega arith)) _ _ _ (l .inv .2) (called .ensures),
+      goes (rowsOfCorners (a .s)) (Listed (a .s) (a .labels .now)) 0 (l .y) (l .y) (rows-under (a .s .height) (l .y) y) (number-at (suc (a .s .height)) (l .y) (omega arith)) _ _ _ (l .inv .2) (called .ensures),
     )
 
 same-length : tie.Need-same-length Inv-loop μ-loop
@@ -66,8 +66,8 @@ returns c =
     let start = c .before .before .before .before in
     let a = start .args in
     let l = c .before .loop in
-    let all = done (rowsOfCorners (a .s)) (Numbered (a .s) (a .labels .now)) _ _ (l .y) (rows-over (a .s .height) (l .y) (c .loop-test .left)) (l .inv .2) in
-    all-numbered (a .s) (a .labels .now) (a .work .now) _ _ (all (a .work .now) [] (none-numbered (a .s) (a .labels .now) (a .work .now) (start .pre .1)))
+    let all = done (rowsOfCorners (a .s)) (Listed (a .s) (a .labels .now)) _ _ (l .y) (rows-over (a .s .height) (l .y) (c .loop-test .left)) (l .inv .2) in
+    all-listed (a .s) (a .labels .now) (a .work .now) _ _ (all (a .work .now) [] (none-listed (a .s) (a .labels .now) (a .work .now) (start .pre .1)))
 
 pub classify-spec : {M : Type 1} → statement M
 classify-spec =

@@ -5,19 +5,19 @@ use native.Mathlib.Omega.{arith}
 use lib.ListN.{length}
 use Rattle.lattice.specs.Size.{pic}
 use Rattle.lattice.specs.Around.{aroundOf}
-use Rattle.graph.specs.Nodes.{numbering, Numbered}
+use Rattle.graph.specs.Nodes.{listing, Listed}
 use Rattle.graph.proofs.Loops.{Through, begin, due, goes, done, cornersOfRow, row-at, row-under, row-over}
-use Rattle.graph.proofs.Numbering.{corner-asks}
+use Rattle.graph.proofs.Listing.{corner-asks}
 use Rattle.graph.proofs.classify_row.Statement.{statement}
 use Rattle.graph.proofs.classify_row.Tie as tie
 
 abbrev Inv-loop : tie.InvT-loop
-Inv-loop s labels work₀ n y last a₀ k₀ x₀ work a k x =
+Inv-loop s labels work₀ y last a₀ k₀ x₀ work a k x =
     (x ≤ s .width + 1) × (length work ≡ length work₀) × (a ≡ aroundOf (pic s labels) x y)
-    × Through (cornersOfRow s y) (Numbered s labels) (numbering work₀ n) (numbering work k) x
+    × Through (cornersOfRow s y) (Listed s labels) (listing work₀ k₀) (listing work k) x
 
 abbrev μ-loop : tie.MeasureT-loop
-μ-loop s labels work₀ n y last a₀ k₀ x₀ work a k x = s .width + 1 - x
+μ-loop s labels work₀ y last a₀ k₀ x₀ work a k x = s .width + 1 - x
 
 look-requires : tie.Need-look-requires Inv-loop μ-loop
 look-requires c κs = let start = c .before .before in (start .pre .0, record { across = omega arith; down = start .pre .1 .0 })
@@ -25,7 +25,7 @@ look-requires c κs = let start = c .before .before in (start .pre .0, record { 
 loop-holds : tie.Need-loop-holds Inv-loop μ-loop
 loop-holds c =
     let a = c .before .before .before .args in
-    (omega arith, refl, c .look .ensures, begin (cornersOfRow (a .s) (a .y)) (Numbered (a .s) (a .labels .now)) (numbering (a .work .now) (a .n)))
+    (omega arith, refl, c .look .ensures, begin (cornersOfRow (a .s) (a .y)) (Listed (a .s) (a .labels .now)) (listing (a .work .now) (a .f)))
 
 classify-corner-requires : tie.Need-classify-corner-requires Inv-loop μ-loop
 classify-corner-requires c κs =
@@ -34,7 +34,7 @@ classify-corner-requires c κs =
     let l = c .before .before .loop in
     let x = c .before .loop-test .taken in
     corner-asks (start .pre .0) (record { across = x; down = start .pre .1 .0 }) (l .inv .2)
-    (due (cornersOfRow (a .s) (a .y)) (Numbered (a .s) (a .labels .now)) (0, 0) (l .x, a .y) (l .x) (row-under (a .s .width) (l .x) (a .y) x)
+    (due (cornersOfRow (a .s) (a .y)) (Listed (a .s) (a .labels .now)) (0, 0) (l .x, a .y) (l .x) (row-under (a .s .width) (l .x) (a .y) x)
     (row-at (suc (a .s .width)) (l .x) (a .y) (omega arith)) _ _ (l .inv .3) (start .pre .1 .1))
 
 look-east-requires : tie.Need-look-east-requires Inv-loop μ-loop
@@ -42,8 +42,7 @@ look-east-requires c κs =
     let at-loop-test = c .before .before .before .before in
     let at-loop = at-loop-test .before in
     let start = at-loop .before .before .before .before in
-    let l = at-loop .loop in
-    (start .pre .0, (record { across = at-loop-test .loop-test .taken; down = start .pre .1 .0 }, l .inv .2))
+    (start .pre .0, (record { across = at-loop-test .loop-test .taken; down = start .pre .1 .0 }, at-loop .loop .inv .2))
 
 add-x : tie.Need-add-x Inv-loop μ-loop
 add-x c =
@@ -66,7 +65,7 @@ loop-again c =
       omega (arith, x),
       called .kept .1 .1 .0 ∙ l .inv .1,
       c .look-east .ensures,
-      goes (cornersOfRow (a .s) (a .y)) (Numbered (a .s) (a .labels .now)) (0, 0) (l .x, a .y) (l .x) (row-under (a .s .width) (l .x) (a .y) x)
+      goes (cornersOfRow (a .s) (a .y)) (Listed (a .s) (a .labels .now)) (0, 0) (l .x, a .y) (l .x) (row-under (a .s .width) (l .x) (a .y) x)
           (row-at (suc (a .s .width)) (l .x) (a .y) (omega arith)) _ _ _ (l .inv .3) (λ o rest q. called .ensures (a .labels .now) o rest (l .inv .2) q),
     )
 
@@ -77,7 +76,7 @@ returns : tie.Need-returns Inv-loop μ-loop
 returns c =
     let a = c .before .before .before .before .before .args in
     let l = c .before .loop in
-    done (cornersOfRow (a .s) (a .y)) (Numbered (a .s) (a .labels .now)) _ _ (l .x) (row-over (a .s .width) (l .x) (a .y) (c .loop-test .left)) (l .inv .3)
+    done (cornersOfRow (a .s) (a .y)) (Listed (a .s) (a .labels .now)) _ _ (l .x) (row-over (a .s .width) (l .x) (a .y) (c .loop-test .left)) (l .inv .3)
 
 pub classify-row-spec : {M : Type 1} → statement M
 classify-row-spec =

@@ -13,7 +13,7 @@ trace-requires : tie.Need-trace-requires
 trace-requires c κs =
     let at-classify = c .before .before .before .before .before .before in
     let start = at-classify .before .before .before .before .before .before .before in
-    (start .pre .0, at-classify .classify .ensures .noded)
+    (start .pre .0, (at-classify .classify .ensures .noded, at-classify .classify .ensures .tallied))
 
 same-length : tie.Need-same-length
 same-length c =

@@ -1,28 +1,34 @@
 -- `graph::put_nodes` meets its contract.
-use borrow.Author.Needs.{needs}
 use Prim.Native.Nat.{_-_, _≤_}
 use mathlib.Core.List.{[]}
 use mathlib.Core.Path.{_≡_, refl, _∙_}
 use native.Mathlib.Omega.{arith}
+use borrow.Author.Needs.{needs}
 use lib.ListN.{length}
 use lib.Seq.{sets}
 use Rattle.rules.specs.Records.{nodeWords}
-use Rattle.graph.specs.Planes.{cornersIn}
-use Rattle.graph.proofs.Numbering.{records-none, records-more}
+use Rattle.graph.specs.Planes.{cornersAt}
+use Rattle.graph.proofs.Listing.{records-none, records-more}
 use Rattle.graph.proofs.put_nodes.Statement.{statement}
 use Rattle.graph.proofs.put_nodes.Tie as tie
 
 abbrev Inv-loop : tie.InvT-loop
-Inv-loop s work nodes₀ n i₀ nodes i = (i ≤ n) × (length nodes ≡ length nodes₀) × (nodes ≡ sets nodes₀ 0 (nodeWords [] (cornersIn s work i)))
+Inv-loop work at nodes₀ n i₀ nodes i = (i ≤ n) × (length nodes ≡ length nodes₀) × (nodes ≡ sets nodes₀ 0 (nodeWords [] (cornersAt work at i)))
 
 abbrev μ-loop : tie.MeasureT-loop
-μ-loop s work nodes₀ n i₀ nodes i = n - i
+μ-loop work at nodes₀ n i₀ nodes i = n - i
 
 loop-holds : tie.Need-loop-holds Inv-loop μ-loop
-loop-holds c = let a = c .before .before .args in (omega arith, refl, records-none (a .s) (a .work .now) (a .nodes .now))
+loop-holds c = let a = c .before .before .args in (omega arith, refl, records-none (a .work .now) (a .at) (a .nodes .now))
 
-node-corner-requires : tie.Need-node-corner-requires Inv-loop μ-loop
-node-corner-requires c κs = let start = c .before .before .before .before in (start .pre .0, (omega (arith, c .loop-test .taken), start .pre .1 .1))
+cast-corner-at : tie.Need-cast-corner-at Inv-loop μ-loop
+cast-corner-at c = omega arith
+
+add-corner-at : tie.Need-add-corner-at Inv-loop μ-loop
+add-corner-at c = omega (arith, c .before .before .before .before .good .0 .0)
+
+corner-at-requires : tie.Need-corner-at-requires Inv-loop μ-loop
+corner-at-requires c κs = omega (arith, c .loop-test .taken)
 
 put-node-requires : tie.Need-put-node-requires Inv-loop μ-loop
 put-node-requires c κs = search needs
@@ -35,17 +41,14 @@ loop-less c = omega (arith, c .before .before .before .before .before .loop-test
 
 loop-again : tie.Need-loop-again Inv-loop μ-loop
 loop-again c =
-    let at-node-corner = c .before .before .before .before in
-    let at-loop-test = at-node-corner .before in
+    let at-corner-at = c .before .before .before .before in
+    let at-loop-test = at-corner-at .before in
     let at-loop = at-loop-test .before in
     let start = at-loop .before .before .before in
     let a = start .args in
     let l = at-loop .loop in
-    let p = at-node-corner .node-corner .ensures in (
-      omega (arith, at-loop-test .loop-test .taken),
-      c .before .before .put-node .kept .0 ∙ l .inv .1,
-      records-more (a .s) (a .work .now) (a .nodes .now) _ _ (l .i) _ _ (p .0) (p .1) (l .inv .2) (c .before .before .put-node .ensures),
-    )
+    let p = at-corner-at .corner-at .ensures in
+    (omega (arith, at-loop-test .loop-test .taken), c .before .before .put-node .kept .0 ∙ l .inv .1, records-more (a .work .now) (a .nodes .now) _ _ (a .at) (l .i) _ _ (p .0) (p .1) (l .inv .2) (c .before .before .put-node .ensures))
 
 same-length : tie.Need-same-length Inv-loop μ-loop
 same-length c = c .before .loop .inv .1
@@ -60,7 +63,9 @@ put-nodes-spec =
     Inv-loop
     μ-loop
     loop-holds
-    node-corner-requires
+    cast-corner-at
+    add-corner-at
+    corner-at-requires
     put-node-requires
     add-i
     loop-less

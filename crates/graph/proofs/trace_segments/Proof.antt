@@ -1,73 +1,78 @@
 -- `graph::trace_segments` meets its contract.
-use Rattle.lattice.proofs.Laws.{product}
-use Rattle.graph.proofs.Numbering.{nodes-few}
-use Prim.Native.Nat.{_+_, _-_, _<_, _≤_}
+use Prim.Native.Nat.{_-_, _≤_}
+use mathlib.Core.Path.{refl}
 use native.Mathlib.Omega.{arith}
-use lib.ListN.{length}
+use borrow.Author.Needs.{needs}
 use Rattle.lattice.specs.Size.{pic}
 use Rattle.graph.specs.Stage.{state, Stage}
-use Rattle.graph.proofs.Tracing.{Same, same-none, same-then}
-use Rattle.rules.specs.Graph.{nodes as nodesOf}
-use Rattle.graph.proofs.Tracing.{node-low, corner-next, corner-inside}
-use Rattle.graph.proofs.Loops.{Through, begin, due, goes, done, waysOfNodes}
+use Rattle.graph.proofs.Tracing.{Same, same-none, same-then, nodes-standing, word-in, corner-here, due-here, done-here}
+use Rattle.graph.proofs.Loops.{Through, begin, done, waysOfNodes}
 use Rattle.graph.proofs.trace_segments.Statement.{statement}
 use Rattle.graph.proofs.trace_segments.Tie as tie
 
 abbrev Inv-loop : tie.InvT-loop
-Inv-loop s labels work₀ nodes₀ segments₀ points₀ last k₀ n₀ work nodes segments points k n =
-    (n ≤ last) × Same (state work₀ nodes₀ segments₀ points₀ k₀) (state work nodes segments points k)
+Inv-loop s labels work₀ nodes₀ segments₀ points₀ at last k₀ n₀ work nodes segments points k n = (n ≤ last) × Same (state work₀ nodes₀ segments₀ points₀ k₀) (state work nodes segments points k)
     × Through (waysOfNodes (pic s labels)) (Stage s labels) (state work₀ nodes₀ segments₀ points₀ k₀) (state work nodes segments points k) n
 
 abbrev μ-loop : tie.MeasureT-loop
-μ-loop s labels work₀ nodes₀ segments₀ points₀ last k₀ n₀ work nodes segments points k n = last - n
+μ-loop s labels work₀ nodes₀ segments₀ points₀ at last k₀ n₀ work nodes segments points k n = last - n
+
+plane-requires : tie.Need-plane-requires Inv-loop μ-loop
+plane-requires c κs = search needs
+
+mul-at : tie.Need-mul-at Inv-loop μ-loop
+mul-at c = search needs
 
 loop-holds : tie.Need-loop-holds Inv-loop μ-loop
-loop-holds c = let a = c .before .before .before .before .before .args in (omega arith, same-none, begin (waysOfNodes (pic (a .s) (a .labels .now))) (Stage (a .s) (a .labels .now)) _)
+loop-holds c =
+    let start = c .before .before .before .before .before .before in
+    let a = start .args in (omega arith, same-none, begin (waysOfNodes (pic (a .s) (a .labels .now))) (Stage (a .s) (a .labels .now)) _)
 
-node-corner-requires : tie.Need-node-corner-requires Inv-loop μ-loop
-node-corner-requires c κs =
-    let start = c .before .before .before .before .before .before .before .before in
-    let d = start .pre .1 in
+cast-corner-at : tie.Need-cast-corner-at Inv-loop μ-loop
+cast-corner-at c = omega arith
+
+add-corner-at : tie.Need-add-corner-at Inv-loop μ-loop
+add-corner-at c =
+    let start = c .before .before .before .before .before .before .before .before .before in
+    let p = c .before .before .before .plane .ensures in
+    let S = nodes-standing (start .pre .1 .now .tallied) _ _ (p .0) refl in
+    omega (arith, c .before .loop-test .taken, S .count, S .few, p .0, p .1)
+
+corner-at-requires : tie.Need-corner-at-requires Inv-loop μ-loop
+corner-at-requires c κs =
+    let start = c .before .before .before .before .before .before .before .before .before in
     let l = c .before .before .loop in
-    let st = l .inv .2 (d .o) (d .rest) (d .now) in
-    let low = node-low st (l .n) (omega (arith, c .before .loop-test .taken, d .now .noded .count)) in
-    (record { wide = start .pre .0 .wide; high = start .pre .0 .high }, (low, st .noded .planes))
+    word-in (nodes-standing (start .pre .1 .now .tallied) _ _ (c .before .before .before .plane .ensures .0) refl) _ _ (l .n) (l .inv .2) (c .before .loop-test .taken) (start .pre .1)
 
 look-requires : tie.Need-look-requires Inv-loop μ-loop
 look-requires c κs =
-    let start = c .before .before .before .before .before .before .before .before .before in
-    let d = start .pre .1 in
+    let at-plane = c .before .before .before .before in
+    let start = at-plane .before .before .before .before .before .before in
     let l = c .before .before .before .loop in
-    let st = l .inv .2 (d .o) (d .rest) (d .now) in
-    let p = c .node-corner .ensures in
-    (start .pre .0, corner-inside st (l .n) (omega (arith, c .before .before .loop-test .taken, d .now .noded .count)) _ _ (p .0) (p .1))
+    let p = c .corner-at .ensures in
+    (start .pre .0, corner-here (nodes-standing (start .pre .1 .now .tallied) _ _ (at-plane .plane .ensures .0) refl) _ _ (l .n) (l .inv .2) (c .before .before .loop-test .taken) (start .pre .1) _ _ (p .0) (p .1))
 
 trace-ways-requires : tie.Need-trace-ways-requires Inv-loop μ-loop
 trace-ways-requires c κs =
     let at-look = c .before .before .before .before in
-    let at-node-corner = at-look .before in
-    let at-loop-test = at-node-corner .before .before in
+    let at-corner-at = at-look .before in
+    let at-loop-test = at-corner-at .before .before in
     let at-loop = at-loop-test .before in
-    let start = at-loop .before .before .before .before .before .before in
-    let a = start .args in
-    let d = start .pre .1 in
+    let at-plane = at-loop .before in
+    let start = at-plane .before .before .before .before .before .before in
     let l = at-loop .loop in
-    let st = l .inv .2 (d .o) (d .rest) (d .now) in
-    let p = at-node-corner .node-corner .ensures in
-    let n : l .n < length (nodesOf (pic (a .s) (a .labels .now))) = omega (arith, at-loop-test .loop-test .taken, d .now .noded .count) in (
-      start .pre .0,
-      (
-        at-look .look .ensures,
-        due (waysOfNodes (pic (a .s) (a .labels .now))) (Stage (a .s) (a .labels .now)) (0, 0) _ (l .n) n (corner-next st (l .n) n _ _ (p .0) (p .1)) _ _ (l .inv .2) d,
-      ),
-    )
+    let p = at-corner-at .corner-at .ensures in
+    let due = due-here (nodes-standing (start .pre .1 .now .tallied) _ _ (at-plane .plane .ensures .0) refl) _ _ (l .n) (l .inv .2) (at-loop-test .loop-test .taken) (start .pre .1) _ _ (p .0) (p .1) in
+    (start .pre .0, (at-look .look .ensures, due))
 
 add-n : tie.Need-add-n Inv-loop μ-loop
 add-n c =
     let at-loop-test = c .before .before .before .before .before .before .before .before .before .before .before .before .before .before .before .before in
-    let start = at-loop-test .before .before .before .before .before .before .before in
-    let s = start .args .s in
-    omega (arith, at-loop-test .loop-test .taken, start .pre .1 .now .noded .count, nodes-few s (start .args .labels .now), product (s .width + 1) (s .height + 1) (omega (arith, start .pre .0 .wide)) (omega (arith, start .pre .0 .high)))
+    let at-plane = at-loop-test .before .before in
+    let start = at-plane .before .before .before .before .before .before in
+    let p = at-plane .plane .ensures in
+    let S = nodes-standing (start .pre .1 .now .tallied) _ _ (p .0) refl in
+    omega (arith, at-loop-test .loop-test .taken, S .count, S .few, p .0, p .1)
 
 loop-less : tie.Need-loop-less Inv-loop μ-loop
 loop-less c =
@@ -77,20 +82,17 @@ loop-less c =
 loop-again : tie.Need-loop-again Inv-loop μ-loop
 loop-again c =
     let at-trace-ways = c .before .before .before .before .before .before .before .before in
-    let at-node-corner = at-trace-ways .before .before .before .before .before .before in
-    let at-loop-test = at-node-corner .before .before in
+    let at-corner-at = at-trace-ways .before .before .before .before .before .before in
+    let at-loop-test = at-corner-at .before .before in
     let at-loop = at-loop-test .before in
-    let start = at-loop .before .before .before .before .before .before in
-    let a = start .args in
-    let d = start .pre .1 in
+    let at-plane = at-loop .before in
+    let start = at-plane .before .before .before .before .before .before in
     let l = at-loop .loop in
-    let st = l .inv .2 (d .o) (d .rest) (d .now) in
-    let p = at-node-corner .node-corner .ensures in
-    let n : l .n < length (nodesOf (pic (a .s) (a .labels .now))) = omega (arith, at-loop-test .loop-test .taken, d .now .noded .count) in
+    let p = at-corner-at .corner-at .ensures in
     let called = at-trace-ways .trace-ways in (
       omega (arith, at-loop-test .loop-test .taken),
       same-then (l .inv .1) (record { work = called .kept .1 .1 .1 .0; nodes = called .kept .1 .1 .1 .1 .0; segments = called .kept .1 .1 .1 .1 .1 .0; points = called .kept .1 .1 .1 .1 .1 .1 .0 }),
-      goes (waysOfNodes (pic (a .s) (a .labels .now))) (Stage (a .s) (a .labels .now)) (0, 0) _ (l .n) n (corner-next st (l .n) n _ _ (p .0) (p .1)) _ _ _ (l .inv .2) (called .ensures),
+      done-here (nodes-standing (start .pre .1 .now .tallied) _ _ (at-plane .plane .ensures .0) refl) _ _ (l .n) (l .inv .2) (at-loop-test .loop-test .taken) (start .pre .1) _ _ (p .0) (p .1) _ (called .ensures),
     )
 
 same-length : tie.Need-same-length Inv-loop μ-loop
@@ -107,10 +109,11 @@ same-length-4 c = c .before .loop .inv .1 .points
 
 returns : tie.Need-returns Inv-loop μ-loop
 returns c =
-    let start = c .before .before .before .before .before .before .before in
+    let start = c .before .before .before .before .before .before .before .before in
     let a = start .args in
     let l = c .before .loop in
-    done (waysOfNodes (pic (a .s) (a .labels .now))) (Stage (a .s) (a .labels .now)) _ _ (l .n) (omega (arith, c .loop-test .left, start .pre .1 .now .noded .count)) (l .inv .2)
+    let S = nodes-standing (start .pre .1 .now .tallied) _ _ (c .before .before .plane .ensures .0) refl in
+    done (waysOfNodes (pic (a .s) (a .labels .now))) (Stage (a .s) (a .labels .now)) _ _ (l .n) (omega (arith, c .loop-test .left, S .count)) (l .inv .2)
 
 pub trace-segments-spec : {M : Type 1} → statement M
 trace-segments-spec =
@@ -118,8 +121,12 @@ trace-segments-spec =
     (tie.spec
     Inv-loop
     μ-loop
+    plane-requires
+    mul-at
     loop-holds
-    node-corner-requires
+    cast-corner-at
+    add-corner-at
+    corner-at-requires
     look-requires
     trace-ways-requires
     add-n

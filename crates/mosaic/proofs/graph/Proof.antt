@@ -2,7 +2,7 @@
 use mathlib.Core.Path.{refl, sym, ap, _∙_}
 use native.Mathlib.Omega.{arith}
 use Rattle.rules.specs.Calls.{graphList, refused}
-use Rattle.mosaic.specs.Outcome.{mapOf}
+use Rattle.mosaic.specs.Outcome.{mapOf, answerOf}
 use Rattle.mosaic.proofs.Calls.{map-passed, planes-passed, graph-roomy, graph-refused, graph-answered}
 use borrow.Author.Needs.{needs}
 use Rattle.mosaic.proofs.graph.Statement.{statement}
@@ -31,32 +31,37 @@ count-graph-requires c κs =
     let early = c .before .before .check-map .ensures in
     (map-passed (a .s) (a .labels .now) (a .work .now) _ early (c .before .if1 .left), planes-passed (a .s) (a .labels .now) (a .work .now) _ early (c .before .if1 .left))
 
+answer-graph-requires : tie.Need-answer-graph-requires
+answer-graph-requires c κs = search needs
+
 check-graph-requires : tie.Need-check-graph-requires
 check-graph-requires c κs = search needs
 
 write-graph-requires : tie.Need-write-graph-requires
 write-graph-requires c κs =
     let at-check-graph = c .before .before .before .before in
-    let at-count-graph = at-check-graph .before .before .before in
+    let at-answer-graph = at-check-graph .before in
+    let at-count-graph = at-answer-graph .before .before .before in
     let at-if1 = at-count-graph .before .before in
     let at-check-map = at-if1 .before in
     let start = at-check-map .before .before .before .before .before .before .before in
     let a = start .args in
-    let k = at-count-graph .count-graph .ensures in
-    let number = at-check-graph .check-graph .ensures (graphList (mapOf (a .s) (a .labels .now))) (a .nodes .now) (a .segments .now) (a .points .now) (k .counts) refl refl refl in
-    (map-passed (a .s) (a .labels .now) (a .work .now) _ (at-check-map .check-map .ensures) (at-if1 .if1 .left), (k .noded, graph-roomy (a .s) (a .labels .now) (a .nodes .now) (a .segments .now) (a .points .now) _ number))
+    let k = at-count-graph .count-graph .ensures .0 in
+    let counts = ap answerOf (at-answer-graph .answer-graph .ensures) ∙ k .counts in
+    let number = at-check-graph .check-graph .ensures (graphList (mapOf (a .s) (a .labels .now))) (a .nodes .now) (a .segments .now) (a .points .now) counts refl refl refl in
+    (map-passed (a .s) (a .labels .now) (a .work .now) _ (at-check-map .check-map .ensures) (at-if1 .if1 .left), (k, graph-roomy (a .s) (a .labels .now) (a .nodes .now) (a .segments .now) (a .points .now) _ number))
 
 clear-requires : tie.Need-clear-requires
 clear-requires c κs =
     let at-write-graph = c .before .before .before .before .before .before .before .before .before in
-    let at-count-graph = at-write-graph .before .before .before .before .before .before .before .before in
+    let at-count-graph = at-write-graph .before .before .before .before .before .before .before .before .before in
     let at-if1 = at-count-graph .before .before in
     let at-check-map = at-if1 .before in
     let start = at-check-map .before .before .before .before .before .before .before in
     let a = start .args in
     let early = at-check-map .check-map .ensures in
     let map = map-passed (a .s) (a .labels .now) (a .work .now) _ early (at-if1 .if1 .left) in
-    (map .wide, map .high, omega (arith, planes-passed (a .s) (a .labels .now) (a .work .now) _ early (at-if1 .if1 .left), at-count-graph .count-graph .ensures .kept .long, at-write-graph .write-graph .ensures .kept .long))
+    (map .wide, map .high, omega (arith, planes-passed (a .s) (a .labels .now) (a .work .now) _ early (at-if1 .if1 .left), at-count-graph .count-graph .ensures .1 .long, at-write-graph .write-graph .ensures .kept .long))
 
 same-length-2 : tie.Need-same-length-2
 same-length-2 c = search needs
@@ -74,15 +79,17 @@ returns-2 : tie.Need-returns-2
 returns-2 c =
     let at-write-graph = c .before .before .before .before .before .before .before .before .before .before .before .before in
     let at-check-graph = at-write-graph .before .before .before .before .before in
-    let at-count-graph = at-check-graph .before .before .before in
+    let at-answer-graph = at-check-graph .before in
+    let at-count-graph = at-answer-graph .before .before .before in
     let at-if1 = at-count-graph .before .before in
     let at-check-map = at-if1 .before in
     let start = at-check-map .before .before .before .before .before .before .before in
     let a = start .args in
     let k = at-count-graph .count-graph .ensures in
-    let number = at-check-graph .check-graph .ensures (graphList (mapOf (a .s) (a .labels .now))) (a .nodes .now) (a .segments .now) (a .points .now) (k .counts) refl refl refl in
-    graph-answered (a .s) (a .labels .now) (a .work .now) (a .nodes .now) (a .segments .now) (a .points .now) _ _ _ _ _ _ _ _
-    (sym (at-check-map .check-map .ensures) ∙ at-if1 .if1 .left) k number (at-write-graph .write-graph .ensures) (c .before .before .clear .ensures)
+    let same = at-answer-graph .answer-graph .ensures in
+    let number = at-check-graph .check-graph .ensures (graphList (mapOf (a .s) (a .labels .now))) (a .nodes .now) (a .segments .now) (a .points .now) (ap answerOf same ∙ k .0 .counts) refl refl refl in
+    graph-answered (a .s) (a .labels .now) (a .work .now) (a .nodes .now) (a .segments .now) (a .points .now) _ _ _ _ _ _ _ _ _
+    (sym (at-check-map .check-map .ensures) ∙ at-if1 .if1 .left) same k number (at-write-graph .write-graph .ensures) (c .before .before .clear .ensures)
 
 pub graph-spec : {M : Type 1} → statement M
 graph-spec =
@@ -93,6 +100,7 @@ graph-spec =
     same-length
     returns
     count-graph-requires
+    answer-graph-requires
     check-graph-requires
     write-graph-requires
     clear-requires

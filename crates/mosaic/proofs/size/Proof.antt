@@ -23,34 +23,46 @@ returns c =
     let early = c .before .before .check-map .ensures in
     size-refused (a .s) (a .labels .now) (a .work .now) _ (λ z. c .before .if1 .taken (early ∙ z)) (c .refuse .ensures ∙ ap refused early)
 
-count-all-requires : tie.Need-count-all-requires
-count-all-requires c κs =
+count-graph-requires : tie.Need-count-graph-requires
+count-graph-requires c κs =
     let start = c .before .before .before .before .before .before in
     let a = start .args in
     let early = c .before .before .check-map .ensures in
     (map-passed (a .s) (a .labels .now) (a .work .now) _ early (c .before .if1 .left), planes-passed (a .s) (a .labels .now) (a .work .now) _ early (c .before .if1 .left))
 
-clear-requires : tie.Need-clear-requires
-clear-requires c κs =
+count-faces-requires : tie.Need-count-faces-requires
+count-faces-requires c κs =
     let at-if1 = c .before .before .before .before .before in
     let at-check-map = at-if1 .before in
     let start = at-check-map .before .before .before .before in
     let a = start .args in
     let early = at-check-map .check-map .ensures in
+    let counted = c .before .before .before .count-graph .ensures in
+    (map-passed (a .s) (a .labels .now) (a .work .now) _ early (at-if1 .if1 .left), (omega (arith, planes-passed (a .s) (a .labels .now) (a .work .now) _ early (at-if1 .if1 .left), counted .1 .long), counted .0))
+
+clear-requires : tie.Need-clear-requires
+clear-requires c κs =
+    let at-count-graph = c .before .before .before .before .before .before .before in
+    let at-if1 = at-count-graph .before .before in
+    let at-check-map = at-if1 .before in
+    let start = at-check-map .before .before .before .before in
+    let a = start .args in
+    let early = at-check-map .check-map .ensures in
     let map = map-passed (a .s) (a .labels .now) (a .work .now) _ early (at-if1 .if1 .left) in
-    (map .wide, map .high, omega (arith, planes-passed (a .s) (a .labels .now) (a .work .now) _ early (at-if1 .if1 .left), c .before .before .before .count-all .ensures .kept .long))
+    (map .wide, map .high, omega (arith, planes-passed (a .s) (a .labels .now) (a .work .now) _ early (at-if1 .if1 .left), at-count-graph .count-graph .ensures .1 .long, c .before .before .before .count-faces .ensures .kept .long))
 
 same-length-2 : tie.Need-same-length-2
 same-length-2 c = search needs
 
 returns-2 : tie.Need-returns-2
 returns-2 c =
-    let at-count-all = c .before .before .before .before .before .before in
-    let at-if1 = at-count-all .before .before in
+    let at-count-faces = c .before .before .before .before .before .before in
+    let at-count-graph = at-count-faces .before .before .before .before in
+    let at-if1 = at-count-graph .before .before in
     let at-check-map = at-if1 .before in
     let start = at-check-map .before .before .before .before in
     let a = start .args in
-    size-answered (a .s) (a .labels .now) (a .work .now) _ _ _ (sym (at-check-map .check-map .ensures) ∙ at-if1 .if1 .left) (at-count-all .count-all .ensures) (c .before .before .clear .ensures)
+    size-answered (a .s) (a .labels .now) (a .work .now) _ _ _ _ _ (sym (at-check-map .check-map .ensures) ∙ at-if1 .if1 .left) (at-count-graph .count-graph .ensures) (at-count-faces .count-faces .ensures) (c .before .before .clear .ensures)
 
 pub size-spec : {M : Type 1} → statement M
 size-spec =
@@ -60,7 +72,8 @@ size-spec =
     refuse-requires
     same-length
     returns
-    count-all-requires
+    count-graph-requires
+    count-faces-requires
     clear-requires
     same-length-2
     returns-2)

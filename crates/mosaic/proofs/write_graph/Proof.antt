@@ -5,7 +5,9 @@ use Rattle.mosaic.proofs.write_graph.Statement.{statement}
 use Rattle.mosaic.proofs.write_graph.Tie as tie
 
 trace-requires : tie.Need-trace-requires
-trace-requires c κs = search needs
+trace-requires c κs =
+    let start = c .before .before .before .before .before .before .before .before .before .before in
+    let pre = start .pre in (pre .0, (pre .1 .0 .noded, pre .1 .0 .tallied))
 
 same-length : tie.Need-same-length
 same-length c = search needs
@@ -23,7 +25,7 @@ returns : tie.Need-returns
 returns c =
     let at-trace = c .before .before .before .before .before .before .before .before in
     let at-if1 = at-trace .before .before .before .before .before in
-    let start = at-if1 .before .before .before .before .before .before .before in
+    let start = at-if1 .before .before .before .before .before .before in
     graph-written (at-if1 .if1 .taken) (start .pre .1 .1) (at-trace .trace .ensures)
 
 returns-2 : tie.Need-returns-2

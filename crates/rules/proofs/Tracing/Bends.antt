@@ -96,7 +96,7 @@ module _ {P : Picture} (F : Framed P) (x y : ℕ) where
   w = crack P (dart x y W)
 
   -- a bend has two cracks
-  bend-plain : bend P (x, y) ≡ true → node P x y ≡ false
+  pub bend-plain : bend P (x, y) ≡ true → node P x y ≡ false
   unfolding bend node degree
   bend-plain b = go n e s w b
     where

@@ -1,15 +1,12 @@
--- `graph::number` meets its contract.
+-- `graph::list_node` meets its contract.
 use native.Mathlib.Omega.{arith}
 use lib.ListN.{length-set}
 use borrow.Author.Needs.{needs}
-use Rattle.graph.proofs.number.Statement.{statement}
-use Rattle.graph.proofs.number.Tie as tie
+use Rattle.graph.proofs.list_node.Statement.{statement}
+use Rattle.graph.proofs.list_node.Tie as tie
 
 plane-requires : tie.Need-plane-requires
 plane-requires c κs = search needs
-
-cast-i : tie.Need-cast-i
-cast-i c = search needs
 
 mul-at : tie.Need-mul-at
 mul-at c = search needs
@@ -35,33 +32,29 @@ add-work c = search needs
 mul-work-3 : tie.Need-mul-work-3
 mul-work-3 c = search needs
 
-slice-write-work-2 : tie.Need-slice-write-work-2
-slice-write-work-2 c = simp length-set (omega (arith, c .before .before .plane .ensures .0))
-
-mul-work-4 : tie.Need-mul-work-4
-mul-work-4 c = search needs
+cast-work : tie.Need-cast-work
+cast-work c = search needs
 
 add-work-2 : tie.Need-add-work-2
 add-work-2 c = search needs
 
-mul-work-5 : tie.Need-mul-work-5
-mul-work-5 c = search needs
+mul-work-4 : tie.Need-mul-work-4
+mul-work-4 c = search needs
 
-slice-write-work-3 : tie.Need-slice-write-work-3
-slice-write-work-3 c = simp length-set (omega (arith, c .before .before .plane .ensures .0))
+slice-write-work-2 : tie.Need-slice-write-work-2
+slice-write-work-2 c = simp length-set (omega (arith, c .before .before .plane .ensures .0))
 
 same-length : tie.Need-same-length
 same-length c = search needs
 
 returns : tie.Need-returns
-returns c = rw (c .before .before .plane .ensures .0, c .corner-index .ensures .0)
+returns c = rw (c .before .before .plane .ensures .0, c .before .corner-index .ensures .0)
 
-pub number-spec : {M : Type 1} → statement M
-number-spec =
+pub list-node-spec : {M : Type 1} → statement M
+list-node-spec =
     tie.close
     (tie.spec
     plane-requires
-    cast-i
     mul-at
     corner-index-requires
     add-at
@@ -70,10 +63,9 @@ number-spec =
     mul-work-2
     add-work
     mul-work-3
-    slice-write-work-2
-    mul-work-4
+    cast-work
     add-work-2
-    mul-work-5
-    slice-write-work-3
+    mul-work-4
+    slice-write-work-2
     same-length
     returns)
