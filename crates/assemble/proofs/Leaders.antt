@@ -1,0 +1,87 @@
+-- The first pixels of the painted islands, listed one after the other.
+use Prim.Native.Nat.{ℕ, suc, _+_, _<_, _≤_}
+use mathlib.Core.Path.{_≡_, refl, sym, ap, subst, _∙_}
+use mathlib.Core.Bool.{Bool, true, false}
+use mathlib.Core.Logic.{inl, inr, ⊎-elim}
+use mathlib.Core.List.{List, [], _∷_, _++_, append-nil, List·Memᴰ as In, List·Memᴰ·not-nil as not-nil, List·Memᴰ·eq-of-singleton as eq-of-singleton, List·Memᴰ·append-cases as in-cases}
+use native.Mathlib.Omega.{arith}
+use lib.ListN.{length, getD, set, length-set}
+use lib.Seq.{getD-set-same, getD-set-other}
+use borrow.Author.Tests.{lt-ltb, le-ltb, eq-eqb, ne-eqb}
+use Rattle.rules.specs.Lists.{keep, upto}
+use Rattle.rules.proofs.Ground.Lists.{keep-append, keep-in, upto-in, upto-snoc}
+use Rattle.store.specs.Words.{part}
+use Rattle.store.proofs.Parts.{part-append, part-same}
+use Rattle.rules.specs.Records.{NONE}
+use Rattle.assemble.specs.Groups.{leads, Pages, Leaders}
+use Rattle.assemble.proofs.Changes.{changed-none, changed-then, set-first, set-second}
+
+-- the next number among those that pass a test
+keep-next : (t : ℕ → Bool) (p : ℕ) (b : Bool) → t p ≡ b → keep t (upto (suc p) 0) ≡ keep t (upto p 0) ++ elim b [ true ↦ p ∷ [] | false ↦ [] ]
+unfolding keep
+keep-next t p b e =
+    let z : 0 + p ≡ p = omega arith in
+    ap (keep t) (upto-snoc p 0 ∙ ap (λ n. upto p 0 ++ (n ∷ [])) z)
+    ∙ keep-append t (upto p 0) (p ∷ [])
+    ∙ ap (λ (b : Bool). keep t (upto p 0) ++ elim b as (λ x. List ℕ) [ true ↦ p ∷ [] | false ↦ [] ]) e
+
+module _ {paints heads ids list : ℕ} {ls work₀ : List ℕ} where
+  pub begin : Pages heads ids list (length ls) work₀ → Leaders paints heads ids list ls work₀ 0 0 work₀
+  unfolding keep upto
+  begin g = record { pages = g; changed = changed-none; few = omega arith; listed = refl; empty = λ q i. absurd (not-nil i) }
+
+  module _ {p m : ℕ} {work : List ℕ} (t : Leaders paints heads ids list ls work₀ p m work) (b : p < length ls) where
+    abbrev leader : ℕ → Bool
+    leader = leads paints ids ls work₀
+
+    same-number : getD work (ids + p) 0 ≡ getD work₀ (ids + p) 0
+    same-number = t .changed .others (ids + p) (inr (omega (arith, t .pages .apart))) (inl (omega (arith, t .pages .behind)))
+
+    skip : leader p ≡ false → Leaders paints heads ids list ls work₀ (suc p) m work
+    skip e =
+        let z : keep leader (upto (suc p) 0) ≡ keep leader (upto p 0) = keep-next leader p false e ∙ append-nil (keep leader (upto p 0)) in
+        record { pages = t .pages; changed = t .changed; few = omega (arith, t .few); listed = t .listed ∙ sym z; empty = λ q i. t .empty q (subst (In q) z i) }
+
+    pub unpainted : paints ≤ getD ls p 0 → Leaders paints heads ids list ls work₀ (suc p) m work
+    unpainted h = skip (rw (le-ltb (getD ls p 0) paints h))
+
+    module _ (l : getD ls p 0 < paints) where
+      pub follower : (getD work (ids + p) 0 ≡ p → ⊥) → Leaders paints heads ids list ls work₀ (suc p) m work
+      follower n = skip (rw (lt-ltb (getD ls p 0) paints l, ne-eqb (getD work₀ (ids + p) 0) p (λ e. n (same-number ∙ e))))
+
+      module _ (own : getD work (ids + p) 0 ≡ p) {work₁ work₂ : List ℕ} (g : work₁ ≡ set work (list + m) p) (h : work₂ ≡ set work₁ (heads + p) NONE) where
+        more : keep leader (upto (suc p) 0) ≡ keep leader (upto p 0) ++ (p ∷ [])
+        more = keep-next leader p true (rw (lt-ltb (getD ls p 0) paints l, eq-eqb (getD work₀ (ids + p) 0) p (sym same-number ∙ own)))
+
+        long : length work₁ ≡ length work₀
+        long = ap length g ∙ length-set work (list + m) p ∙ t .changed .long
+
+        other : (i : ℕ) → (i ≡ list + m → ⊥) → (i ≡ heads + p → ⊥) → getD work₂ i 0 ≡ getD work i 0
+        other i u v = ap (λ (w : List ℕ). getD w i 0) h ∙ getD-set-other work₁ (heads + p) i NONE 0 v ∙ ap (λ (w : List ℕ). getD w i 0) g ∙ getD-set-other work (list + m) i p 0 u
+
+        listed : getD work₂ (list + m) 0 ≡ p
+        listed =
+            ap (λ (w : List ℕ). getD w (list + m) 0) h
+            ∙ getD-set-other work₁ (heads + p) (list + m) NONE 0 (λ z. omega (arith, t .few, t .pages .apart, t .pages .behind))
+            ∙ ap (λ (w : List ℕ). getD w (list + m) 0) g
+            ∙ getD-set-same work (list + m) p 0 (omega (arith, t .few, t .changed .long, t .pages .apart, t .pages .behind, t .pages .room))
+
+        empty : getD work₂ (heads + p) 0 ≡ NONE
+        empty = ap (λ (w : List ℕ). getD w (heads + p) 0) h ∙ getD-set-same work₁ (heads + p) NONE 0 (omega (arith, long, t .pages .behind, t .pages .room))
+
+        pub leading : Leaders paints heads ids list ls work₀ (suc p) (m + 1) work₂
+        leading = record {
+          pages = t .pages;
+          changed = changed-then (t .changed) (changed-then {ws′ = work₁} (rw g (set-second work (list + m) p (omega arith) (omega (arith, t .few)))) (rw h (set-first work₁ (heads + p) NONE (omega arith) (omega arith))));
+          few = omega (arith, t .few);
+          listed = part-append work₂ list m 1
+              ∙ ap (λ (l : List ℕ). l ++ part work₂ (list + m) 1) (part-same work₂ work list list m (λ i k. other (list + i) (λ z. omega arith) (λ z. omega (arith, t .few, t .pages .apart, t .pages .behind))) ∙ t .listed)
+              ∙ ap (λ v. keep leader (upto p 0) ++ (v ∷ [])) listed
+              ∙ sym more;
+          empty = λ q i. ⊎-elim (λ (j : In q (keep leader (upto p 0))). before q j) (λ (j : In q (p ∷ [])). ap (λ q. getD work₂ (heads + q) 0) (eq-of-singleton j) ∙ empty) (in-cases (keep leader (upto p 0)) (subst (In q) more i));
+        }
+          where
+            before : (q : ℕ) → In q (keep leader (upto p 0)) → getD work₂ (heads + q) 0 ≡ NONE
+            before q j =
+                let u = upto-in p 0 q (keep-in leader (upto p 0) q j .0) in
+                other (heads + q) (λ z. omega (arith, t .few, t .pages .apart, t .pages .behind)) (λ z. omega arith) ∙ t .empty q j

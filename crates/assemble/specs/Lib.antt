@@ -1,0 +1,9 @@
+pub mod Words
+pub mod Changes
+pub mod Trails
+pub mod Drawn
+pub mod Round
+pub mod Stage
+pub mod Groups
+pub mod Writing
+pub mod Assembly
