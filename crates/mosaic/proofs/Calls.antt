@@ -6,12 +6,14 @@ use native.Mathlib.Omega.{arith}
 use lib.ListN.{length, replicate, drop}
 use lib.Seq.{sets}
 use Rattle.rules.specs.Graph.{nodes, segments}
-use Rattle.rules.specs.Calls.{Map, pictureOf, CutList, cuts, graphList, cutList, Answer as RulesAnswer, counted, refused, Check, firstHit, mapChecks, short, graphChecks, answer, storeAfter, graph, size, workWords, workAfter}
+use Rattle.rules.specs.Face.{faces}
+use Rattle.rules.specs.Records.{contoursOf}
+use Rattle.rules.specs.Calls.{Map, pictureOf, CutList, cuts, graphList, cutList, Answer as RulesAnswer, counted, refused, Check, firstHit, mapChecks, short, graphChecks, faceChecks, answer, storeAfter, graph, size, whole, workWords, workAfter}
 use Rattle.rules.proofs.Tracing.Partition.{describes}
 use Rattle.rules.proofs.Tracing.Counts.{has-step}
-use Rattle.rules.proofs.CutList.Lengths.{length-nodes, length-segments, length-points}
+use Rattle.rules.proofs.CutList.Lengths.{length-nodes, length-segments, length-points, length-contours, length-faces}
 use Rattle.store.specs.Words.{Kept}
-use Rattle.store.proofs.Writes.{kept-then}
+use Rattle.store.proofs.Writes.{kept-then, kept-within}
 use Rattle.lattice.specs.declared.Size.{Size}
 use Rattle.lattice.specs.Size.{Map as LabelledMap}
 use Rattle.lattice.specs.Planes.{plane}
@@ -19,8 +21,8 @@ use Rattle.lattice.proofs.Frame.{framed}
 use Rattle.graph.specs.declared.Counts.{Counts}
 use Rattle.mosaic.specs.declared.Answer.{Answer}
 use Rattle.mosaic.specs.Outcome.{mapOf, answerOf, graphAnswer, withNumber, outcome}
-use Rattle.mosaic.specs.Steps.{CountsGraph, CountsFaces, GraphRoomy, GraphWritten}
-use Rattle.mosaic.proofs.Checks.{room, all-miss}
+use Rattle.mosaic.specs.Steps.{CountsGraph, CountsFaces, GraphRoomy, GraphWritten, FacesRoomy, FacesWritten}
+use Rattle.mosaic.proofs.Checks.{room, all-miss, both-miss, graph-positive}
 use Rattle.mosaic.proofs.Outcomes.{Late, first, Passed, passed, refused-answer, refused-work, refused-store, number-late, accepted-answer, accepted-work, work-words, work-cleared}
 
 -- THE MAP passed the early checks
@@ -35,24 +37,54 @@ module _ (s : Size) (ls work : List ℕ) (n : ℕ) (e : n ≡ first (mapOf s ls)
   pub planes-passed : 8 * plane (s .width) (s .height) ≤ length work
   planes-passed = omega (arith, ok .planes, work-words s ls)
 
--- ROOM for the graph, where the number of its checks is 0
+-- ROOM, where the number of the checks is 0
 
-pub graph-roomy : (s : Size) (ls ns ss ps : List ℕ) (n : ℕ) → n ≡ firstHit (graphChecks (graphList (mapOf s ls)) ns ss ps) → GraphRoomy s ls n ns ss ps
-unfolding graphChecks graphList cuts
-graph-roomy s ls ns ss ps n e = record { nodes = λ z. all z .0; segments = λ z. all z .1; points = λ z. all z .2 }
-  where
-    l : CutList
-    l = graphList (mapOf s ls)
+module _ (s : Size) (ls : List ℕ) where
+  pub graph-roomy : (ns ss ps : List ℕ) (n : ℕ) → (n ≡ 0 → firstHit (graphChecks (graphList (mapOf s ls)) ns ss ps) ≡ 0) → GraphRoomy s ls n ns ss ps
+  unfolding graphChecks graphList cuts
+  graph-roomy ns ss ps n f = record { nodes = λ z. all z .0; segments = λ z. all z .1; points = λ z. all z .2 }
+    where
+      l : CutList
+      l = graphList (mapOf s ls)
 
-    all : n ≡ 0 → (length (l .nodes) ≤ length ns) × (length (l .segments) ≤ length ss) × (length (l .points) ≤ length ps)
-    all z =
-        let F = framed s ls in
-        let P = pictureOf (mapOf s ls) in
-        let a = all-miss 4 5 6 (short 6 ns (l .nodes)) (short 8 ss (l .segments)) (short 2 ps (l .points)) (omega arith) (omega arith) (omega arith) (sym e ∙ z) in (
-          omega (arith, room 6 ns (l .nodes) (a .0), length-nodes (segments P) (nodes P)),
-          omega (arith, room 8 ss (l .segments) (a .1), length-segments P 0 (segments P)),
-          omega (arith, room 2 ps (l .points) (a .2), length-points (segments P) (has-step F (describes F))),
-        )
+      all : n ≡ 0 → (length (l .nodes) ≤ length ns) × (length (l .segments) ≤ length ss) × (length (l .points) ≤ length ps)
+      all z =
+          let F = framed s ls in
+          let P = pictureOf (mapOf s ls) in
+          let a = all-miss 4 (short 6 ns (l .nodes)) (short 8 ss (l .segments)) (short 2 ps (l .points)) (omega arith) (f z) in (
+            omega (arith, room 6 ns (l .nodes) (a .0), length-nodes (segments P) (nodes P)),
+            omega (arith, room 8 ss (l .segments) (a .1), length-segments P 0 (segments P)),
+            omega (arith, room 2 ps (l .points) (a .2), length-points (segments P) (has-step F (describes F))),
+          )
+
+  pub faces-roomy : (rs cs fs : List ℕ) (n : ℕ) → (n ≡ 0 → firstHit (faceChecks (cutList (mapOf s ls)) rs cs fs) ≡ 0) → FacesRoomy s ls n rs cs fs
+  unfolding faceChecks cutList cuts
+  faces-roomy rs cs fs n f = record { references = λ z. all z .0; contours = λ z. all z .1; faces = λ z. all z .2 }
+    where
+      l : CutList
+      l = cutList (mapOf s ls)
+
+      all : n ≡ 0 → (length (l .references) ≤ length rs) × (length (l .contours) ≤ length cs) × (length (l .faces) ≤ length fs)
+      all z =
+          let P = pictureOf (mapOf s ls) in
+          let found = faces P (segments P) (s .paints) in
+          let a = all-miss 7 (short 1 rs (l .references)) (short 2 cs (l .contours)) (short 3 fs (l .faces)) (omega arith) (f z) in (
+            omega (arith, room 1 rs (l .references) (a .0)),
+            omega (arith, room 2 cs (l .contours) (a .1), length-contours 0 (contoursOf found)),
+            omega (arith, room 3 fs (l .faces) (a .2), length-faces 0 found),
+          )
+
+  -- of all six at once
+  same-checks : (ns ss ps : List ℕ) → graphChecks (cutList (mapOf s ls)) ns ss ps ≡ graphChecks (graphList (mapOf s ls)) ns ss ps
+  unfolding graphChecks cutList graphList cuts
+  same-checks ns ss ps = refl
+
+  module _ (ns ss ps rs cs fs : List ℕ) (n : ℕ) (e : n ≡ firstHit (graphChecks (cutList (mapOf s ls)) ns ss ps ++ faceChecks (cutList (mapOf s ls)) rs cs fs)) where
+    miss : n ≡ 0 → (firstHit (graphChecks (cutList (mapOf s ls)) ns ss ps) ≡ 0) × (firstHit (faceChecks (cutList (mapOf s ls)) rs cs fs) ≡ 0)
+    miss z = both-miss (graphChecks (cutList (mapOf s ls)) ns ss ps) (faceChecks (cutList (mapOf s ls)) rs cs fs) (graph-positive (cutList (mapOf s ls)) ns ss ps) (sym e ∙ z)
+
+    pub all-roomy : GraphRoomy s ls n ns ss ps × FacesRoomy s ls n rs cs fs
+    all-roomy = (graph-roomy ns ss ps n (λ z. rw (same-checks ns ss ps) at (miss z .0)), faces-roomy rs cs fs n (λ z. miss z .1))
 
 -- the counts with another number
 renumbered : (n : ℕ) (a : Answer) (l : CutList) → answerOf a ≡ counted 0 l → answerOf (withNumber n a) ≡ counted n l
@@ -124,8 +156,57 @@ module _ (s : Size) (ls work : List ℕ) where
         let late : Late ds = (omega arith, (omega arith, (omega arith, tt))) in
         let same : n ≡ firstHit (mapChecks m work ++ ds) = e ∙ sym (number-late m work ds late z) in
         let answered = renumbered n a cut (ap answerOf g ∙ k .0 .counts) ∙ ap (λ (n : ℕ). counted n cut) e ∙ sym (accepted-answer m work ds late z cut) in
-        let worked = work-left work₂ work₃ z (kept-then (k .1) (w .kept)) f ∙ sym (accepted-work m work ds late z) in
+        let worked = work-left work₂ work₃ z (kept-then (k .1) (kept-within (omega arith) (omega arith) (w .kept))) f ∙ sym (accepted-work m work ds late z) in
         let noded = w .nodes ∙ ap (λ (n : ℕ). storeAfter n (cut .nodes) ns) same in
         let segmented = w .segments ∙ ap (λ (n : ℕ). storeAfter n (cut .segments) ss) same in
         let pointed = w .points ∙ ap (λ (n : ℕ). storeAfter n (cut .points) ps) same in
         λ i. record { answer = answered i; stores = worked i ∷ noded i ∷ segmented i ∷ pointed i ∷ [] }
+
+  -- WHOLE
+
+  module _ (ns ss ps rs cs fs : List ℕ) where
+    pub whole-refused : (a : Answer) → (first m work ≡ 0 → ⊥) → answerOf a ≡ refused (first m work)
+        → outcome a (work ∷ ns ∷ ss ∷ ps ∷ rs ∷ cs ∷ fs ∷ []) ≡ whole m work ns ss ps rs cs fs
+    unfolding whole
+    whole-refused a n e =
+        let cut = cutList m in
+        let ds = graphChecks cut ns ss ps ++ faceChecks cut rs cs fs in
+        rw (
+          refused-answer m work ds n cut,
+          refused-work m work ds n,
+          refused-store m work ds n (cut .nodes) ns,
+          refused-store m work ds n (cut .segments) ss,
+          refused-store m work ds n (cut .points) ps,
+          refused-store m work ds n (cut .references) rs,
+          refused-store m work ds n (cut .contours) cs,
+          refused-store m work ds n (cut .faces) fs,
+        )
+        (ap (λ (a : RulesAnswer). record { answer = a; stores = work ∷ ns ∷ ss ∷ ps ∷ rs ∷ cs ∷ fs ∷ [] }) e)
+
+    pub whole-answered : (n : ℕ) (a : Answer) (c : Counts) (work₁ work₂ work₃ work₄ work₅ ns′ ss′ ps′ rs′ cs′ fs′ : List ℕ)
+        → first m work ≡ 0
+        → CountsGraph s ls work work₁ c
+        → CountsFaces s ls work₁ c work₂ a
+        → n ≡ firstHit (graphChecks (cutList m) ns ss ps ++ faceChecks (cutList m) rs cs fs)
+        → GraphWritten s ls n work₂ ns ss ps work₃ ns′ ss′ ps′
+        → FacesWritten s ls n work₃ rs cs fs work₄ rs′ cs′ fs′
+        → work₅ ≡ sets work₄ 0 (replicate (8 * plane (s .width) (s .height)) 0)
+        → outcome (withNumber n a) (work₅ ∷ ns′ ∷ ss′ ∷ ps′ ∷ rs′ ∷ cs′ ∷ fs′ ∷ []) ≡ whole m work ns ss ps rs cs fs
+    unfolding whole graphChecks faceChecks graphList cutList cuts
+    whole-answered n a c work₁ work₂ work₃ work₄ work₅ ns′ ss′ ps′ rs′ cs′ fs′ z g k e w v f =
+        let cut = cutList m in
+        let ds = graphChecks cut ns ss ps ++ faceChecks cut rs cs fs in
+        let late : Late ds = (omega arith, (omega arith, (omega arith, (omega arith, (omega arith, (omega arith, tt)))))) in
+        let same : n ≡ firstHit (mapChecks m work ++ ds) = e ∙ sym (number-late m work ds late z) in
+        let after : (words store store′ : List ℕ) → store′ ≡ storeAfter n words store → store′ ≡ storeAfter (firstHit (mapChecks m work ++ ds)) words store
+        = λ words store store′ q. q ∙ ap (λ (n : ℕ). storeAfter n words store) same in
+        let answered = renumbered n a cut (k .counts) ∙ ap (λ (n : ℕ). counted n cut) e ∙ sym (accepted-answer m work ds late z cut) in
+        let kept = kept-then (g .1) (kept-then (k .kept) (kept-then (kept-within (omega arith) (omega arith) (w .kept)) (v .kept))) in
+        let worked = work-left work₄ work₅ z kept f ∙ sym (accepted-work m work ds late z) in
+        λ i. record {
+          answer = answered i;
+          stores =
+              worked i ∷
+              after (cut .nodes) ns ns′ (w .nodes) i ∷ after (cut .segments) ss ss′ (w .segments) i ∷ after (cut .points) ps ps′ (w .points) i ∷
+              after (cut .references) rs rs′ (v .references) i ∷ after (cut .contours) cs cs′ (v .contours) i ∷ after (cut .faces) fs fs′ (v .faces) i ∷ [];
+        }

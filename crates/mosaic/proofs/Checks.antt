@@ -1,14 +1,16 @@
 -- The checks, one after the other: what each says when it hits, and what none of them leaves.
-use Prim.Native.Nat.{ℕ, _*_, _/_, _<_, _≤_}
+use Prim.Native.Nat.{ℕ, _+_, _*_, _/_, _<_, _≤_}
 use mathlib.Core.Bool.{Bool, true, false}
-use mathlib.Core.Path.{_≡_, refl, ap}
+use mathlib.Core.Path.{_≡_, refl, sym, ap, _∙_}
 use mathlib.Core.List.{List, [], _∷_, _++_}
 use native.Mathlib.Omega.{arith}
+use native.Mathlib.Decide.{ℕ-discrete}
 use lib.ListN.{length}
 use borrow.Author.Tests.{lt-ltb, le-ltb, eq-eqb, ne-eqb, ltb-false}
 use Rattle.mosaic.specs.declared.Answer.{Answer}
 use Rattle.mosaic.specs.Outcome.{answerOf}
-use Rattle.rules.specs.Calls.{counted, Map, Check, firstHit, workWords, mapChecks, CutList, short, graphChecks}
+use Rattle.mosaic.specs.Counted.{roomChecks}
+use Rattle.rules.specs.Calls.{counted, Map, Check, firstHit, workWords, mapChecks, CutList, short, graphChecks, faceChecks}
 
 -- ANY CHECKS, each with a number above 0
 
@@ -37,6 +39,14 @@ hit-late (c ∷ cs) ds p e = go (c .hits) e (hit-late cs ds (p .1))
         → _≡_ {A = ℕ} (elim b [ true ↦ c .number | false ↦ firstHit (cs ++ ds) ]) (firstHit ds)
     go true e f = absurd (let h = p .0 in omega arith)
     go false e f = f e
+
+-- the number is 0 only where neither those nor these hit
+pub both-miss : (cs ds : List Check) → Positive cs → firstHit (cs ++ ds) ≡ 0 → (firstHit cs ≡ 0) × (firstHit ds ≡ 0)
+both-miss cs ds p z =
+    elim (ℕ-discrete (firstHit cs) 0) [
+      | yes e ↦ (e, sym (hit-late cs ds p e) ∙ z)
+      | no n ↦ absurd (n (sym (hit-early cs ds p n) ∙ z))
+    ]
 
 -- OF THE MAP AND THE WORK STORE
 
@@ -70,90 +80,53 @@ module _ (m : Map) (work : List ℕ) where
         none-early p =
             rw (le-ltb 16384 (m .width) w, le-ltb 16384 (m .height) h, eq-eqb (length (m .labels)) (m .width * m .height) l, le-ltb (length work) (workWords m) p, firstHit)
 
--- OF THREE STORES, whose records are p, q and r words: the numbers a, b and c
+-- OF THREE STORES, with the numbers from n on
 
-module _ (p a : ℕ) (store words : List ℕ) where
-  -- it holds fewer records than the words are
-  pub lacks : a ≡ length words / p → length store / p < a → short p store words ≡ true
-  unfolding short
-  lacks e h = lt-ltb (length store / p) (length words / p) (omega arith)
+abbrev pub three : ℕ → Bool → Bool → Bool → List Check
+three n s t u = record { number = n; hits = s } ∷ record { number = n + 1; hits = t } ∷ record { number = n + 2; hits = u } ∷ []
 
-  pub holds : a ≡ length words / p → a ≤ length store / p → short p store words ≡ false
-  unfolding short
-  holds e h = le-ltb (length store / p) (length words / p) (omega arith)
+module _ (n : ℕ) (s t u : Bool) where
+  pub first-short : s ≡ true → n ≡ firstHit (three n s t u)
+  unfolding firstHit
+  first-short e = rw (e, firstHit)
+
+  pub second-short : s ≡ false → t ≡ true → n + 1 ≡ firstHit (three n s t u)
+  unfolding firstHit
+  second-short d e = rw (d, e, firstHit)
+
+  pub third-short : s ≡ false → t ≡ false → u ≡ true → n + 2 ≡ firstHit (three n s t u)
+  unfolding firstHit
+  third-short d e f = rw (d, e, f, firstHit)
+
+  pub none-short : s ≡ false → t ≡ false → u ≡ false → 0 ≡ firstHit (three n s t u)
+  unfolding firstHit
+  none-short d e f = rw (d, e, f, firstHit)
+
+-- and if the number is 0, none is
+pub all-miss : (n : ℕ) (s t u : Bool) → 0 < n → firstHit (three n s t u) ≡ 0 → (s ≡ false) × (t ≡ false) × (u ≡ false)
+unfolding firstHit
+all-miss n true t u h e = absurd (omega arith)
+all-miss n false true u h e = absurd (omega arith)
+all-miss n false false true h e = absurd (omega arith)
+all-miss n false false false h e = (refl, refl, refl)
 
 pub room : (p : ℕ) (store words : List ℕ) → short p store words ≡ false → length words / p ≤ length store / p
 unfolding short
 room p store words e = ltb-false (length store / p) (length words / p) e
 
-abbrev pub three : ℕ → ℕ → ℕ → Bool → Bool → Bool → List Check
-three a b c s t u = record { number = a; hits = s } ∷ record { number = b; hits = t } ∷ record { number = c; hits = u } ∷ []
+-- the rules' checks are such
+pub graph-room : (a : Answer) (l : CutList) (ns ss ps : List ℕ) → answerOf a ≡ counted 0 l
+    → roomChecks 4 (length ns / 6) (a .nodes) (length ss / 8) (a .segments) (length ps / 2) (a .points) ≡ graphChecks l ns ss ps
+unfolding graphChecks short counted
+graph-room a l ns ss ps k = rw (ap (λ b. b .nodes) k, ap (λ b. b .segments) k, ap (λ b. b .points) k)
 
-module _ (a b c : ℕ) where
-  pub first-hits : (s t u : Bool) → s ≡ true → a ≡ firstHit (three a b c s t u)
-  unfolding firstHit
-  first-hits s t u e = rw (e, firstHit)
+pub face-room : (a : Answer) (l : CutList) (rs cs fs : List ℕ) → answerOf a ≡ counted 0 l
+    → roomChecks 7 (length rs) (a .references) (length cs / 2) (a .contours) (length fs / 3) (a .faces) ≡ faceChecks l rs cs fs
+unfolding faceChecks short counted
+face-room a l rs cs fs k =
+    let single : (n : ℕ) → n / 1 ≡ n = λ n. omega arith in
+    rw (single (length rs), single (length (l .references)), ap (λ b. b .references) k, ap (λ b. b .contours) k, ap (λ b. b .faces) k)
 
-  pub second-hits : (s t u : Bool) → s ≡ false → t ≡ true → b ≡ firstHit (three a b c s t u)
-  unfolding firstHit
-  second-hits s t u d e = rw (d, e, firstHit)
-
-  pub third-hits : (s t u : Bool) → s ≡ false → t ≡ false → u ≡ true → c ≡ firstHit (three a b c s t u)
-  unfolding firstHit
-  third-hits s t u d e f = rw (d, e, f, firstHit)
-
-  pub none-hits : (s t u : Bool) → s ≡ false → t ≡ false → u ≡ false → 0 ≡ firstHit (three a b c s t u)
-  unfolding firstHit
-  none-hits s t u d e f = rw (d, e, f, firstHit)
-
-  -- and if the number is 0, none does
-  pub all-miss : (s t u : Bool) → 0 < a → 0 < b → 0 < c → firstHit (three a b c s t u) ≡ 0 → (s ≡ false) × (t ≡ false) × (u ≡ false)
-  unfolding firstHit
-  all-miss true t u ha hb hc e = absurd (omega arith)
-  all-miss false true u ha hb hc e = absurd (omega arith)
-  all-miss false false true ha hb hc e = absurd (omega arith)
-  all-miss false false false ha hb hc e = (refl, refl, refl)
-
--- OF THE GRAPH
-
-module _ (l : CutList) (a : Answer) (k : answerOf a ≡ counted 0 l) (ns ss ps : List ℕ) where
-  nodes-are : a .nodes ≡ length (l .nodes) / 6
-  unfolding counted
-  nodes-are = ap (λ b. b .nodes) k
-
-  segments-are : a .segments ≡ length (l .segments) / 8
-  unfolding counted
-  segments-are = ap (λ b. b .segments) k
-
-  points-are : a .points ≡ length (l .points) / 2
-  unfolding counted
-  points-are = ap (λ b. b .points) k
-
-  abbrev s₁ : Bool
-  s₁ = short 6 ns (l .nodes)
-
-  abbrev s₂ : Bool
-  s₂ = short 8 ss (l .segments)
-
-  abbrev s₃ : Bool
-  s₃ = short 2 ps (l .points)
-
-  pub few-nodes : length ns / 6 < a .nodes → 4 ≡ firstHit (graphChecks l ns ss ps)
-  unfolding graphChecks
-  few-nodes h = first-hits 4 5 6 s₁ s₂ s₃ (lacks 6 (a .nodes) ns (l .nodes) nodes-are h)
-
-  module _ (hn : a .nodes ≤ length ns / 6) where
-    pub few-segments : length ss / 8 < a .segments → 5 ≡ firstHit (graphChecks l ns ss ps)
-    unfolding graphChecks
-    few-segments h = second-hits 4 5 6 s₁ s₂ s₃ (holds 6 (a .nodes) ns (l .nodes) nodes-are hn) (lacks 8 (a .segments) ss (l .segments) segments-are h)
-
-    module _ (hs : a .segments ≤ length ss / 8) where
-      pub few-points : length ps / 2 < a .points → 6 ≡ firstHit (graphChecks l ns ss ps)
-      unfolding graphChecks
-      few-points h =
-          third-hits 4 5 6 s₁ s₂ s₃ (holds 6 (a .nodes) ns (l .nodes) nodes-are hn) (holds 8 (a .segments) ss (l .segments) segments-are hs) (lacks 2 (a .points) ps (l .points) points-are h)
-
-      pub graph-room : a .points ≤ length ps / 2 → 0 ≡ firstHit (graphChecks l ns ss ps)
-      unfolding graphChecks
-      graph-room h =
-          none-hits 4 5 6 s₁ s₂ s₃ (holds 6 (a .nodes) ns (l .nodes) nodes-are hn) (holds 8 (a .segments) ss (l .segments) segments-are hs) (holds 2 (a .points) ps (l .points) points-are h)
+pub graph-positive : (l : CutList) (ns ss ps : List ℕ) → Positive (graphChecks l ns ss ps)
+unfolding graphChecks
+graph-positive l ns ss ps = (omega arith, (omega arith, (omega arith, tt)))

@@ -1,27 +1,39 @@
 -- The steps of a call, by what extraction and the faces ensure.
-use Prim.Native.Nat.{ℕ}
-use mathlib.Core.Path.{_≡_, sym, _∙_}
-use mathlib.Core.List.{List, []}
+use Prim.Native.Nat.{ℕ, _+_, _*_, _<_, _≤_}
+use mathlib.Core.Path.{_≡_, sym, ap, _∙_}
+use mathlib.Core.Logic.{inr, ⊎-elim}
+use mathlib.Core.List.{List, [], _++_}
 use native.Mathlib.Omega.{arith}
+use lib.ListN.{length, getD, drop, List·getD-append}
 use Rattle.rules.specs.Lists.{flat}
-use Rattle.rules.specs.Graph.{segments}
+use Rattle.rules.specs.Graph.{nodes, segments}
 use Rattle.rules.specs.Face.{faces}
-use Rattle.rules.specs.Records.{contoursOf, contourWords, faceWords}
-use Rattle.rules.specs.Calls.{pictureOf, cuts, graphList, cutList, counted}
+use Rattle.rules.specs.Records.{nodeWords, segmentWords, pointWords, contoursOf, contourWords, faceWords}
+use Rattle.rules.specs.Calls.{pictureOf, cuts, graphList, cutList, counted, storeAfter}
 use Rattle.rules.proofs.Tracing.Partition.{describes}
 use Rattle.rules.proofs.CutList.Counts.{counts}
+use Rattle.rules.proofs.CutList.Lengths.{length-nodes, length-segments}
 use Rattle.store.proofs.Writes.{kept-none, kept-within}
 use Rattle.lattice.specs.declared.Size.{Size}
+use Rattle.lattice.specs.Size.{Map, pic}
+use Rattle.lattice.specs.Planes.{plane}
 use Rattle.lattice.proofs.Frame.{framed}
 use Rattle.graph.specs.declared.Counts.{Counts}
 use Rattle.graph.specs.Extracted.{Extracted}
 use Rattle.graph.proofs.Listing.{noded-beyond}
 use Rattle.face.specs.declared.Counts.{Counts as FaceCounts}
 use Rattle.face.specs.Counts.{Counted}
+use Rattle.assemble.specs.Drawn.{Written}
+use Rattle.assemble.specs.Assembly.{Standing, Assembled}
+use Rattle.assemble.proofs.Drawing.{drawn, pointed}
 use Rattle.mosaic.specs.declared.Answer.{Answer}
 use Rattle.mosaic.specs.Outcome.{mapOf, answerOf, graphAnswer}
-use Rattle.mosaic.specs.Steps.{GraphCounted, CountsGraph, CountsFaces, GraphRoomy, GraphWritten}
+use Rattle.mosaic.specs.Steps.{GraphCounted, CountsGraph, CountsFaces, GraphRoomy, GraphWritten, FacesRoomy, FacesWritten}
 use Rattle.mosaic.proofs.Outcomes.{store-written, store-kept}
+
+-- a word of those that stand at the front of a store
+in-front : (words store : List ℕ) {store′ : List ℕ} → store′ ≡ words ++ drop (length words) store → (i : ℕ) → i < length words → getD store′ i 0 ≡ getD words i 0
+in-front words store e i h = rw e (List·getD-append words (drop (length words) store) 0 i h)
 
 -- the counts of faces beside those of the graph
 abbrev pub withFaces : Counts → FaceCounts → Answer
@@ -94,7 +106,7 @@ module _ {s : Size} {ls : List ℕ} where
           nodes = rw z (store-written (l .nodes) ns _ (r .nodes z) (e .node-store));
           segments = rw z (store-written (l .segments) ss _ (r .segments z) (e .segment-store));
           points = rw z (store-written (l .points) ps _ (r .points z) (e .point-store));
-          kept = kept-within (omega arith) (omega arith) (e .kept);
+          kept = e .kept;
         }
 
     pub graph-left : (n ≡ 0 → ⊥) → GraphWritten s ls n work ns ss ps work ns ss ps
@@ -104,5 +116,52 @@ module _ {s : Size} {ls : List ℕ} where
           nodes = store-kept n (l .nodes) ns h;
           segments = store-kept n (l .segments) ss h;
           points = store-kept n (l .points) ps h;
+          kept = kept-none;
+        }
+
+  -- what the assembly asks, once the graph stands in its stores
+  pub graph-standing : {work₀ work work′ ns ss ps ns′ ss′ ps′ : List ℕ} {c : Counts} {a : Answer} {n : ℕ} → Map s ls → 8 * plane (s .width) (s .height) ≤ length work → n ≡ 0
+      → CountsFaces s ls work₀ c work a → GraphWritten s ls n work ns ss ps work′ ns′ ss′ ps′ → Standing s ls ns′ ss′ ps′ (c .segments) work′ (segments (pic s ls))
+  unfolding graphList counted cuts storeAfter
+  graph-standing {work} {ns} {ss} {ps} {c} M h z k w =
+      let P = pic s ls in
+      let D = describes (framed s ls) in
+      let sides = segments P in
+      let written : Written P sides _ _ _ = record {
+        node-words = λ i b. in-front (nodeWords sides (nodes P)) ns (rw z at (w .nodes)) i (omega (arith, length-nodes sides (nodes P)));
+        segment-words = λ i b. in-front (segmentWords P 0 sides) ss (rw z at (w .segments)) i (omega (arith, length-segments P 0 sides));
+        point-words = λ i b. in-front (pointWords sides) ps (rw z at (w .points)) i b;
+      } in
+      record {
+        drawn = drawn s ls M sides D _ _ _ written;
+        pointed = pointed s ls M sides D _ _ _ written;
+        total = omega (arith, ap (λ b. b .segments) (k .graph .counts), length-segments P 0 sides);
+        planes = omega (arith, w .kept .long);
+        numbers = λ p b o. w .kept .others (5 * plane (s .width) (s .height) + p) (inr (omega arith)) ∙ k .numbers p b o;
+      }
+
+  module _ {n : ℕ} {work rs cs fs : List ℕ} where
+    pub faces-written : {work′ rs′ cs′ fs′ : List ℕ} → n ≡ 0 → FacesRoomy s ls n rs cs fs
+        → Assembled s ls (segments (pic s ls)) work rs cs fs work′ rs′ cs′ fs′ → FacesWritten s ls n work rs cs fs work′ rs′ cs′ fs′
+    unfolding cutList cuts
+    faces-written z r e =
+        let l = cutList (mapOf s ls) in
+        record {
+          references = rw z (store-written (l .references) rs _ (r .references z) (e .written .reference-words));
+          contours = rw z (store-written (l .contours) cs _ (r .contours z) (e .written .contour-words));
+          faces = rw z (store-written (l .faces) fs _ (r .faces z) (e .written .face-words));
+          kept = record {
+            long = e .changed .long;
+            others = λ i o. ⊎-elim (λ (h : i < 0). absurd (omega arith)) (λ (h : 8 * plane (s .width) (s .height) ≤ i). e .changed .others i (inr (omega arith)) (inr (omega arith))) o;
+          };
+        }
+
+    pub faces-left : (n ≡ 0 → ⊥) → FacesWritten s ls n work rs cs fs work rs cs fs
+    faces-left h =
+        let l = cutList (mapOf s ls) in
+        record {
+          references = store-kept n (l .references) rs h;
+          contours = store-kept n (l .contours) cs h;
+          faces = store-kept n (l .faces) fs h;
           kept = kept-none;
         }

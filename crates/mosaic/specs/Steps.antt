@@ -46,4 +46,16 @@ pub record GraphWritten (s : Size) (ls : List ℕ) (n : ℕ) (work ns ss ps work
   pub nodes : ns′ ≡ storeAfter n (graphList (mapOf s ls) .nodes) ns
   pub segments : ss′ ≡ storeAfter n (graphList (mapOf s ls) .segments) ss
   pub points : ps′ ≡ storeAfter n (graphList (mapOf s ls) .points) ps
+  pub kept : Kept 0 (2 * plane (s .width) (s .height)) work work′
+
+-- and for the faces
+pub record FacesRoomy (s : Size) (ls : List ℕ) (n : ℕ) (rs cs fs : List ℕ) : Type 0 where
+  pub references : n ≡ 0 → length (cutList (mapOf s ls) .references) ≤ length rs
+  pub contours : n ≡ 0 → length (cutList (mapOf s ls) .contours) ≤ length cs
+  pub faces : n ≡ 0 → length (cutList (mapOf s ls) .faces) ≤ length fs
+
+pub record FacesWritten (s : Size) (ls : List ℕ) (n : ℕ) (work rs cs fs work′ rs′ cs′ fs′ : List ℕ) : Type 0 where
+  pub references : rs′ ≡ storeAfter n (cutList (mapOf s ls) .references) rs
+  pub contours : cs′ ≡ storeAfter n (cutList (mapOf s ls) .contours) cs
+  pub faces : fs′ ≡ storeAfter n (cutList (mapOf s ls) .faces) fs
   pub kept : Kept 0 (8 * plane (s .width) (s .height)) work work′

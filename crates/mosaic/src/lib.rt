@@ -7,12 +7,14 @@ ghost use mathlib.Core.List.{[], _∷_};
 ghost use Prim.Native.Nat.{_*_, _≤_};
 ghost use lib.ListN.{length, replicate};
 ghost use lib.Seq.{sets};
-ghost use Rattle.rules.specs.Calls.{mapChecks, firstHit, refused, size as sizeOf, graph as graphOf};
-ghost use Rattle.lattice.specs.Size.{Map};
+ghost use Rattle.rules.specs.Calls.{mapChecks, firstHit, refused, size as sizeOf, graph as graphOf, whole as wholeOf};
+ghost use Rattle.rules.specs.Graph.{segments as segmentsOf};
+ghost use Rattle.lattice.specs.Size.{Map, pic};
 ghost use Rattle.lattice.specs.Planes.{plane};
+ghost use Rattle.assemble.specs.Assembly.{Standing};
 ghost use Rattle.mosaic.specs.Outcome.{mapOf, mapWith, answerOf, graphAnswer, answerWords, outcome, answered};
-ghost use Rattle.mosaic.specs.Counted.{GraphRoom};
-ghost use Rattle.mosaic.specs.Steps.{GraphCounted, CountsGraph, CountsFaces, GraphRoomy, GraphWritten};
+ghost use Rattle.mosaic.specs.Counted.{roomChecks, GraphRoom, FaceRoom, AllRoom};
+ghost use Rattle.mosaic.specs.Steps.{GraphCounted, CountsGraph, CountsFaces, GraphRoomy, GraphWritten, FacesRoomy, FacesWritten};
 
 // The number of document 01, then the seven counts.
 pub struct Answer {
@@ -63,20 +65,70 @@ fn check_map(s: Size, labels: &[u32], work: &[u32]) -> u32
     0
 }
 
+// Of three stores, which hold a, b and c records and must hold x, y and z: the number of the first that is short, from `first` on.
+fn check_room(first: u32, a: usize, x: u32, b: usize, y: u32, c: usize, z: u32) -> u32
+    requires { ⌜ first ≤ 7 ⌝ }
+    ensures { λ r. ⌜ r ≡ firstHit (roomChecks first a x b y c z) ⌝ }
+{
+    if a < x as usize {
+        return first;
+    }
+    if b < y as usize {
+        return first + 1;
+    }
+    if c < z as usize {
+        return first + 2;
+    }
+    0
+}
+
 // Of the words lent for nodes, segments and points: 4 to 6.
 fn check_graph(a: Answer, nodes: usize, segments: usize, points: usize) -> u32
     ensures { λ r. ⌜ GraphRoom a nodes segments points r ⌝ }
 {
-    if nodes / 6 < a.nodes as usize {
-        return 4;
+    check_room(
+        4,
+        nodes / 6,
+        a.nodes,
+        segments / 8,
+        a.segments,
+        points / 2,
+        a.points,
+    )
+}
+
+// Of the words lent for references, contours and faces: 7 to 9.
+fn check_faces(a: Answer, references: usize, contours: usize, faces: usize) -> u32
+    ensures { λ r. ⌜ FaceRoom a references contours faces r ⌝ }
+{
+    check_room(
+        7,
+        references,
+        a.references,
+        contours / 2,
+        a.contours,
+        faces / 3,
+        a.faces,
+    )
+}
+
+// Of the words lent for all six: 4 to 9.
+fn check_all(
+    a: Answer,
+    nodes: usize,
+    segments: usize,
+    points: usize,
+    references: usize,
+    contours: usize,
+    faces: usize,
+) -> u32
+    ensures { λ r. ⌜ AllRoom a nodes segments points references contours faces r ⌝ }
+{
+    let number = check_graph(a, nodes, segments, points);
+    if number != 0 {
+        return number;
     }
-    if segments / 8 < a.segments as usize {
-        return 5;
-    }
-    if points / 2 < a.points as usize {
-        return 6;
-    }
-    0
+    check_faces(a, references, contours, faces)
 }
 
 // STEPS
@@ -152,6 +204,39 @@ fn write_graph(
     }
 }
 
+// The faces of the graph in its stores into theirs, where the number says that they have room.
+fn write_faces(
+    s: Size,
+    labels: &[u32],
+    work: &mut [u32],
+    nodes: &[u32],
+    segments: &[u32],
+    points: &[u32],
+    references: &mut [u32],
+    contours: &mut [u32],
+    faces: &mut [u32],
+    n: u32,
+    number: u32,
+)
+    requires { ⌜ Map s (now labels) ⌝ ∗ ⌜ (number ≡ 0 → Standing s (now labels) (now nodes) (now segments) (now points) n (now work) (segmentsOf (pic s (now labels)))) ⌝ ∗ ⌜ FacesRoomy s (now labels) number (now references) (now contours) (now faces) ⌝ }
+    ensures { λ _. ⌜ FacesWritten s (now (labels .entry)) number (now (work .entry)) (now (references .entry)) (now (contours .entry)) (now (faces .entry)) (now (work .exit)) (now (references .exit)) (now (contours .exit)) (now (faces .exit)) ⌝ }
+{
+    if number == 0 {
+        assemble::assemble(
+            s,
+            labels,
+            nodes,
+            segments,
+            points,
+            n,
+            work,
+            references,
+            contours,
+            faces,
+        );
+    }
+}
+
 // THE CALLS
 
 // The seven counts.
@@ -188,6 +273,54 @@ pub fn graph(
     let number = check_graph(a, nodes.len(), segments.len(), points.len());
     a.number = number;
     write_graph(s, labels, work, nodes, segments, points, c, number);
+    clear(s, work);
+    a
+}
+
+// The whole cut list.
+pub fn whole(
+    s: Size,
+    labels: &[u32],
+    work: &mut [u32],
+    nodes: &mut [u32],
+    segments: &mut [u32],
+    points: &mut [u32],
+    references: &mut [u32],
+    contours: &mut [u32],
+    faces: &mut [u32],
+) -> Answer
+    ensures { λ r. ⌜ outcome r (now (work .exit) ∷ now (nodes .exit) ∷ now (segments .exit) ∷ now (points .exit) ∷ now (references .exit) ∷ now (contours .exit) ∷ now (faces .exit) ∷ []) ≡ wholeOf (mapOf s (now (labels .entry))) (now (work .entry)) (now (nodes .entry)) (now (segments .entry)) (now (points .entry)) (now (references .entry)) (now (contours .entry)) (now (faces .entry)) ⌝ }
+{
+    let early = check_map(s, labels, work);
+    if early != 0 {
+        return refuse(early);
+    }
+    let c = count_graph(s, labels, work);
+    let mut a = count_faces(s, labels, work, c);
+    let number = check_all(
+        a,
+        nodes.len(),
+        segments.len(),
+        points.len(),
+        references.len(),
+        contours.len(),
+        faces.len(),
+    );
+    a.number = number;
+    write_graph(s, labels, work, nodes, segments, points, c, number);
+    write_faces(
+        s,
+        labels,
+        work,
+        nodes,
+        segments,
+        points,
+        references,
+        contours,
+        faces,
+        c.segments,
+        number,
+    );
     clear(s, work);
     a
 }
@@ -248,4 +381,42 @@ pub extern "C" fn mosaic_graph(
         paints,
     };
     put_answer(answer, graph(s, labels, work, nodes, segments, points));
+}
+
+#[no_mangle]
+pub extern "C" fn mosaic_whole(
+    width: u32,
+    height: u32,
+    paints: u32,
+    labels: &[u32],
+    work: &mut [u32],
+    nodes: &mut [u32],
+    segments: &mut [u32],
+    points: &mut [u32],
+    references: &mut [u32],
+    contours: &mut [u32],
+    faces: &mut [u32],
+    answer: &mut [u32; 8],
+)
+    ensures { λ _. ⌜ answered (now (answer .exit)) (now (work .exit) ∷ now (nodes .exit) ∷ now (segments .exit) ∷ now (points .exit) ∷ now (references .exit) ∷ now (contours .exit) ∷ now (faces .exit) ∷ []) ≡ wholeOf (mapWith width height paints (now (labels .entry))) (now (work .entry)) (now (nodes .entry)) (now (segments .entry)) (now (points .entry)) (now (references .entry)) (now (contours .entry)) (now (faces .entry)) ⌝ }
+{
+    let s = Size {
+        width,
+        height,
+        paints,
+    };
+    put_answer(
+        answer,
+        whole(
+            s,
+            labels,
+            work,
+            nodes,
+            segments,
+            points,
+            references,
+            contours,
+            faces,
+        ),
+    );
 }

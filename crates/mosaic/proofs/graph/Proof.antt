@@ -49,7 +49,7 @@ write-graph-requires c κs =
     let k = at-count-graph .count-graph .ensures .0 in
     let counts = ap answerOf (at-answer-graph .answer-graph .ensures) ∙ k .counts in
     let number = at-check-graph .check-graph .ensures (graphList (mapOf (a .s) (a .labels .now))) (a .nodes .now) (a .segments .now) (a .points .now) counts refl refl refl in
-    (map-passed (a .s) (a .labels .now) (a .work .now) _ (at-check-map .check-map .ensures) (at-if1 .if1 .left), (k, graph-roomy (a .s) (a .labels .now) (a .nodes .now) (a .segments .now) (a .points .now) _ number))
+    (map-passed (a .s) (a .labels .now) (a .work .now) _ (at-check-map .check-map .ensures) (at-if1 .if1 .left), (k, graph-roomy (a .s) (a .labels .now) (a .nodes .now) (a .segments .now) (a .points .now) _ (λ z. sym number ∙ z)))
 
 clear-requires : tie.Need-clear-requires
 clear-requires c κs =
