@@ -1,14 +1,14 @@
 -- Each call's outcome, put together from its steps.
 use Prim.Native.Nat.{ℕ, _*_, _≤_}
 use mathlib.Core.Path.{_≡_, refl, sym, ap, _∙_}
-use mathlib.Core.List.{List, [], _∷_, _++_, append-nil}
+use mathlib.Core.List.{List, [], _∷_, _++_, map}
 use native.Mathlib.Omega.{arith}
 use lib.ListN.{length, replicate, drop}
 use lib.Seq.{sets}
 use Rattle.rules.specs.Graph.{nodes, segments}
 use Rattle.rules.specs.Face.{faces}
 use Rattle.rules.specs.Records.{contoursOf}
-use Rattle.rules.specs.Calls.{Map, pictureOf, CutList, cuts, graphList, cutList, Answer as RulesAnswer, counted, refused, Check, firstHit, mapChecks, short, graphChecks, faceChecks, answer, storeAfter, graph, size, whole, workWords, workAfter}
+use Rattle.rules.specs.Calls.{Map, pictureOf, CutList, cuts, graphList, cutList, Answer as RulesAnswer, counted, refused, Check, firstHit, mapChecks, short, graphChecks, faceChecks, answer, storeAfter, call, graph, size, whole, workWords, workAfter}
 use Rattle.rules.proofs.Tracing.Partition.{describes}
 use Rattle.rules.proofs.Tracing.Counts.{has-step}
 use Rattle.rules.proofs.CutList.Lengths.{length-nodes, length-segments, length-points, length-contours, length-faces}
@@ -111,35 +111,52 @@ module _ (s : Size) (ls work : List ℕ) where
       work-cleared (8 * plane (s .width) (s .height)) work work₁ work₂ (planes-passed s ls work (first m work) refl z) k f
       ∙ ap (λ (n : ℕ). replicate n 0 ++ drop n work) (sym (work-words s ls))
 
+  -- ANY CALL
+
+  module _ (l : CutList) (more : List Check) (parts : List (List ℕ × List ℕ)) where
+    pub call-refused : (a : Answer) → (first m work ≡ 0 → ⊥) → answerOf a ≡ refused (first m work) → outcome a (work ∷ map (λ p. p .1) parts) ≡ call m l work more parts
+    unfolding call
+    call-refused a n e = λ i. record { answer = (e ∙ sym (refused-answer m work more n l)) i; stores = sym (refused-work m work more n) i ∷ kept parts i }
+      where
+        kept : (ps : List (List ℕ × List ℕ)) → map (λ p. p .1) ps ≡ map (λ p. storeAfter (firstHit (mapChecks m work ++ more)) (p .0) (p .1)) ps
+        kept [] = refl
+        kept (p ∷ ps) = λ i. sym (refused-store m work more n (p .0) (p .1)) i ∷ kept ps i
+
+    pub call-answered : (n : ℕ) (a : Answer) (work₁ work₂ : List ℕ) (stores : List (List ℕ))
+        → first m work ≡ 0
+        → Late more
+        → n ≡ firstHit more
+        → answerOf a ≡ counted 0 l
+        → Kept 0 (8 * plane (s .width) (s .height)) work work₁
+        → work₂ ≡ sets work₁ 0 (replicate (8 * plane (s .width) (s .height)) 0)
+        → stores ≡ map (λ p. storeAfter n (p .0) (p .1)) parts
+        → outcome (withNumber n a) (work₂ ∷ stores) ≡ call m l work more parts
+    unfolding call
+    call-answered n a work₁ work₂ stores z late e k kept cleared written =
+        let answered = renumbered n a l k ∙ ap (λ (n : ℕ). counted n l) e ∙ sym (accepted-answer m work more late z l) in
+        let worked = work-left work₁ work₂ z kept cleared ∙ sym (accepted-work m work more late z) in
+        let same : n ≡ firstHit (mapChecks m work ++ more) = e ∙ sym (number-late m work more late z) in
+        let stored = written ∙ ap (λ (n : ℕ). map (λ p. storeAfter n (p .0) (p .1)) parts) same in
+        λ i. record { answer = answered i; stores = worked i ∷ stored i }
+
   -- SIZE
 
   pub size-refused : (a : Answer) → (first m work ≡ 0 → ⊥) → answerOf a ≡ refused (first m work) → outcome a (work ∷ []) ≡ size m work
   unfolding size
-  size-refused a n e =
-      let none = append-nil (mapChecks m work) in
-      let answered = e ∙ sym (refused-answer m work [] n (cutList m)) ∙ ap (λ (cs : List Check). answer (firstHit cs) (cutList m)) none in
-      let worked = sym (refused-work m work [] n) ∙ ap (λ (cs : List Check). workAfter m (firstHit cs) work) none in
-      λ i. record { answer = answered i; stores = worked i ∷ [] }
+  size-refused = call-refused (cutList m) [] []
 
   pub size-answered : (a : Answer) (c : Counts) (work₁ work₂ work₃ : List ℕ) → first m work ≡ 0 → CountsGraph s ls work work₁ c → CountsFaces s ls work₁ c work₂ a
       → work₃ ≡ sets work₂ 0 (replicate (8 * plane (s .width) (s .height)) 0) → outcome a (work₃ ∷ []) ≡ size m work
-  unfolding size firstHit
+  unfolding size firstHit counted
   size-answered a c work₁ work₂ work₃ z g k f =
-      let none = append-nil (mapChecks m work) in
-      let answered = k .counts ∙ sym (accepted-answer m work [] tt z (cutList m)) ∙ ap (λ (cs : List Check). answer (firstHit cs) (cutList m)) none in
-      let worked = work-left work₂ work₃ z (kept-then (g .1) (k .kept)) f ∙ sym (accepted-work m work [] tt z) ∙ ap (λ (cs : List Check). workAfter m (firstHit cs) work) none in
-      λ i. record { answer = answered i; stores = worked i ∷ [] }
+      ap (λ (n : ℕ). outcome (withNumber n a) (work₃ ∷ [])) (ap (λ b. b .number) (k .counts)) ∙ call-answered (cutList m) [] [] 0 a work₂ work₃ [] z tt refl (k .counts) (kept-then (g .1) (k .kept)) f refl
 
   -- GRAPH
 
   module _ (ns ss ps : List ℕ) where
     pub graph-refused : (a : Answer) → (first m work ≡ 0 → ⊥) → answerOf a ≡ refused (first m work) → outcome a (work ∷ ns ∷ ss ∷ ps ∷ []) ≡ graph m work ns ss ps
     unfolding graph
-    graph-refused a n e =
-        let cut = graphList m in
-        let ds = graphChecks cut ns ss ps in
-        rw (refused-answer m work ds n cut, refused-work m work ds n, refused-store m work ds n (cut .nodes) ns, refused-store m work ds n (cut .segments) ss, refused-store m work ds n (cut .points) ps)
-        (ap (λ (a : RulesAnswer). record { answer = a; stores = work ∷ ns ∷ ss ∷ ps ∷ [] }) e)
+    graph-refused = call-refused (graphList m) _ ((graphList m .nodes, ns) ∷ (graphList m .segments, ss) ∷ (graphList m .points, ps) ∷ [])
 
     pub graph-answered : (n : ℕ) (a : Answer) (c : Counts) (work₁ work₂ work₃ ns′ ss′ ps′ : List ℕ)
         → first m work ≡ 0
@@ -151,16 +168,10 @@ module _ (s : Size) (ls work : List ℕ) where
         → outcome (withNumber n a) (work₃ ∷ ns′ ∷ ss′ ∷ ps′ ∷ []) ≡ graph m work ns ss ps
     unfolding graph graphChecks
     graph-answered n a c work₁ work₂ work₃ ns′ ss′ ps′ z g k e w f =
-        let cut = graphList m in
-        let ds = graphChecks cut ns ss ps in
-        let late : Late ds = (omega arith, (omega arith, (omega arith, tt))) in
-        let same : n ≡ firstHit (mapChecks m work ++ ds) = e ∙ sym (number-late m work ds late z) in
-        let answered = renumbered n a cut (ap answerOf g ∙ k .0 .counts) ∙ ap (λ (n : ℕ). counted n cut) e ∙ sym (accepted-answer m work ds late z cut) in
-        let worked = work-left work₂ work₃ z (kept-then (k .1) (kept-within (omega arith) (omega arith) (w .kept))) f ∙ sym (accepted-work m work ds late z) in
-        let noded = w .nodes ∙ ap (λ (n : ℕ). storeAfter n (cut .nodes) ns) same in
-        let segmented = w .segments ∙ ap (λ (n : ℕ). storeAfter n (cut .segments) ss) same in
-        let pointed = w .points ∙ ap (λ (n : ℕ). storeAfter n (cut .points) ps) same in
-        λ i. record { answer = answered i; stores = worked i ∷ noded i ∷ segmented i ∷ pointed i ∷ [] }
+        call-answered (graphList m) (graphChecks (graphList m) ns ss ps) _ n a work₂ work₃ (ns′ ∷ ss′ ∷ ps′ ∷ []) z
+        (omega arith, (omega arith, (omega arith, tt))) e (ap answerOf g ∙ k .0 .counts)
+        (kept-then (k .1) (kept-within (omega arith) (omega arith) (w .kept))) f
+        (λ i. w .nodes i ∷ w .segments i ∷ w .points i ∷ [])
 
   -- WHOLE
 
@@ -168,20 +179,9 @@ module _ (s : Size) (ls work : List ℕ) where
     pub whole-refused : (a : Answer) → (first m work ≡ 0 → ⊥) → answerOf a ≡ refused (first m work)
         → outcome a (work ∷ ns ∷ ss ∷ ps ∷ rs ∷ cs ∷ fs ∷ []) ≡ whole m work ns ss ps rs cs fs
     unfolding whole
-    whole-refused a n e =
-        let cut = cutList m in
-        let ds = graphChecks cut ns ss ps ++ faceChecks cut rs cs fs in
-        rw (
-          refused-answer m work ds n cut,
-          refused-work m work ds n,
-          refused-store m work ds n (cut .nodes) ns,
-          refused-store m work ds n (cut .segments) ss,
-          refused-store m work ds n (cut .points) ps,
-          refused-store m work ds n (cut .references) rs,
-          refused-store m work ds n (cut .contours) cs,
-          refused-store m work ds n (cut .faces) fs,
-        )
-        (ap (λ (a : RulesAnswer). record { answer = a; stores = work ∷ ns ∷ ss ∷ ps ∷ rs ∷ cs ∷ fs ∷ [] }) e)
+    whole-refused =
+        let l = cutList m in
+        call-refused l _ ((l .nodes, ns) ∷ (l .segments, ss) ∷ (l .points, ps) ∷ (l .references, rs) ∷ (l .contours, cs) ∷ (l .faces, fs) ∷ [])
 
     pub whole-answered : (n : ℕ) (a : Answer) (c : Counts) (work₁ work₂ work₃ work₄ work₅ ns′ ss′ ps′ rs′ cs′ fs′ : List ℕ)
         → first m work ≡ 0
@@ -194,19 +194,10 @@ module _ (s : Size) (ls work : List ℕ) where
         → outcome (withNumber n a) (work₅ ∷ ns′ ∷ ss′ ∷ ps′ ∷ rs′ ∷ cs′ ∷ fs′ ∷ []) ≡ whole m work ns ss ps rs cs fs
     unfolding whole graphChecks faceChecks graphList cutList cuts
     whole-answered n a c work₁ work₂ work₃ work₄ work₅ ns′ ss′ ps′ rs′ cs′ fs′ z g k e w v f =
-        let cut = cutList m in
-        let ds = graphChecks cut ns ss ps ++ faceChecks cut rs cs fs in
-        let late : Late ds = (omega arith, (omega arith, (omega arith, (omega arith, (omega arith, (omega arith, tt)))))) in
-        let same : n ≡ firstHit (mapChecks m work ++ ds) = e ∙ sym (number-late m work ds late z) in
-        let after : (words store store′ : List ℕ) → store′ ≡ storeAfter n words store → store′ ≡ storeAfter (firstHit (mapChecks m work ++ ds)) words store
-        = λ words store store′ q. q ∙ ap (λ (n : ℕ). storeAfter n words store) same in
-        let answered = renumbered n a cut (k .counts) ∙ ap (λ (n : ℕ). counted n cut) e ∙ sym (accepted-answer m work ds late z cut) in
-        let kept = kept-then (g .1) (kept-then (k .kept) (kept-then (kept-within (omega arith) (omega arith) (w .kept)) (v .kept))) in
-        let worked = work-left work₄ work₅ z kept f ∙ sym (accepted-work m work ds late z) in
-        λ i. record {
-          answer = answered i;
-          stores =
-              worked i ∷
-              after (cut .nodes) ns ns′ (w .nodes) i ∷ after (cut .segments) ss ss′ (w .segments) i ∷ after (cut .points) ps ps′ (w .points) i ∷
-              after (cut .references) rs rs′ (v .references) i ∷ after (cut .contours) cs cs′ (v .contours) i ∷ after (cut .faces) fs fs′ (v .faces) i ∷ [];
-        }
+        let l = cutList m in
+        call-answered l (graphChecks l ns ss ps ++ faceChecks l rs cs fs)
+        ((l .nodes, ns) ∷ (l .segments, ss) ∷ (l .points, ps) ∷ (l .references, rs) ∷ (l .contours, cs) ∷ (l .faces, fs) ∷ [])
+        n a work₄ work₅ (ns′ ∷ ss′ ∷ ps′ ∷ rs′ ∷ cs′ ∷ fs′ ∷ []) z
+        (omega arith, (omega arith, (omega arith, (omega arith, (omega arith, (omega arith, tt)))))) e (k .counts)
+        (kept-then (g .1) (kept-then (k .kept) (kept-then (kept-within (omega arith) (omega arith) (w .kept)) (v .kept)))) f
+        (λ i. w .nodes i ∷ w .segments i ∷ w .points i ∷ v .references i ∷ v .contours i ∷ v .faces i ∷ [])

@@ -1,1 +1,4 @@
 pub mod Answered
+pub mod Held
+pub mod Unshared
+pub mod Sharp

@@ -3,5 +3,7 @@ pub mod Outcomes
 pub mod Steps
 pub mod Calls
 pub mod Rows
+pub mod Settled
+pub mod Called
 pub mod Tables
 pub mod Demands

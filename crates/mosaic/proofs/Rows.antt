@@ -2,7 +2,8 @@
 use Prim.Native.Nat.{ℕ, _<_}
 use mathlib.Core.Bool.{Bool, true, false, true≢false}
 use mathlib.Core.Path.{_≡_, refl, sym, _∙_}
-use mathlib.Core.List.{List, [], _∷_, _++_}
+use mathlib.Core.Logic.{_⊎_, inl, inr}
+use mathlib.Core.List.{List, [], _∷_, _++_, List·Memᴰ as In, List·Memᴰ·head as here, List·Memᴰ·tail as there}
 use native.Mathlib.Omega.{arith}
 use Rattle.rules.specs.Calls.{Check, firstHit}
 
@@ -20,6 +21,10 @@ pub record Row : Type 1 where
 abbrev pub checks : List {1} Row → List Check
 checks [] = []
 checks (r ∷ rs) = r .check ∷ checks rs
+
+abbrev pub numbers : List {1} Row → List ℕ
+numbers [] = []
+numbers (r ∷ rs) = r .check .number ∷ numbers rs
 
 -- none of the rows applies
 abbrev pub None : List {1} Row → Type 0
@@ -78,3 +83,15 @@ none-applies k (r ∷ rs) p = go (r .check .hits) refl (none-applies (r .check .
         → (_≡_ {A = ℕ} (elim b [ true ↦ r .check .number | false ↦ firstHit (checks rs) ]) 0) ⇔ ((r .says → ⊥) × None rs)
     go true h f = (λ e. absurd (let c = p .0 in omega arith), λ n. absurd (n .0 (r .exact .0 h)))
     go false h f = (λ e. (λ s. true≢false (sym (r .exact .1 s) ∙ h), f .0 e), λ n. f .1 (n .1))
+
+-- no other number is given
+pub some-number : (rs : List {1} Row) → (firstHit (checks rs) ≡ 0) ⊎ In (firstHit (checks rs)) (numbers rs)
+unfolding firstHit
+some-number [] = inl refl
+some-number (r ∷ rs) = go (r .check .hits) (some-number rs)
+  where
+    go : (b : Bool) → (firstHit (checks rs) ≡ 0) ⊎ In (firstHit (checks rs)) (numbers rs)
+        → let n : ℕ = elim b [ true ↦ r .check .number | false ↦ firstHit (checks rs) ] in (n ≡ 0) ⊎ In n (numbers (r ∷ rs))
+    go true f = inr (here refl)
+    go false (inl e) = inl e
+    go false (inr i) = inr (there i)

@@ -57,9 +57,9 @@ abbrev pub faceRows : CutList → List ℕ → List ℕ → List ℕ → List {1
 faceRows l rs cs fs = storeRow 7 1 rs (l .references) ∷ storeRow 8 2 cs (l .contours) ∷ storeRow 9 3 fs (l .faces) ∷ []
 
 -- they are the definitions' checks
-pub map-checks : (m : Map) (work : List ℕ) → checks (mapRows m work) ≡ mapChecks m work
+pub size-checks : (m : Map) (work : List ℕ) → checks (mapRows m work) ≡ mapChecks m work ++ []
 unfolding mapChecks
-map-checks m work = refl
+size-checks m work = refl
 
 pub graph-checks : (m : Map) (work : List ℕ) (l : CutList) (ns ss ps : List ℕ) → checks (mapRows m work ++ graphRows l ns ss ps) ≡ mapChecks m work ++ graphChecks l ns ss ps
 unfolding mapChecks graphChecks
@@ -71,8 +71,8 @@ unfolding mapChecks graphChecks faceChecks
 whole-checks m work l ns ss ps rs cs fs = refl
 
 -- and their numbers rise
-pub map-rising : (m : Map) (work : List ℕ) → Rising 0 (mapRows m work)
-map-rising m work = (omega arith, (omega arith, (omega arith, tt)))
+pub size-rising : (m : Map) (work : List ℕ) → Rising 0 (mapRows m work)
+size-rising m work = (omega arith, (omega arith, (omega arith, tt)))
 
 pub graph-rising : (m : Map) (work : List ℕ) (l : CutList) (ns ss ps : List ℕ) → Rising 0 (mapRows m work ++ graphRows l ns ss ps)
 graph-rising m work l ns ss ps = (omega arith, (omega arith, (omega arith, (omega arith, (omega arith, (omega arith, tt))))))

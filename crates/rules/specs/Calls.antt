@@ -2,7 +2,7 @@
 use Prim.Native.Nat.{ℕ, _+_, _*_, _/_, _≤_}
 use mathlib.Core.Bool.{Bool, true, false, not, _&&_, _||_}
 use mathlib.Core.Path.{_≡_}
-use mathlib.Core.List.{List, [], _∷_, _++_}
+use mathlib.Core.List.{List, [], _∷_, _++_, map}
 use lib.Dec.{leb, ltb, eqb}
 use lib.ListN.{length, getD, drop, replicate}
 use Rattle.rules.specs.Lists.{flat}
@@ -143,35 +143,29 @@ workAfter m n work = elim (early n) [ true ↦ work | false ↦ replicate (workW
 unfoldable pub storeAfter : ℕ → List ℕ → List ℕ → List ℕ
 storeAfter n words store = elim (eqb n 0) [ true ↦ words ++ drop (length words) store | false ↦ store ]
 
--- THE THREE CALLS: the answer, and every lent store afterwards, in the order in which the call takes them
+-- A CALL: the answer, and every lent store afterwards, in the order in which the call takes them
 
 pub record Outcome : Type 0 where
   pub answer : Answer
   pub stores : List (List ℕ)
 
+-- behind the checks of the map and the work store come those of the other stores, each beside the words that belong into it
+unfoldable pub call : Map → CutList → List ℕ → List Check → List (List ℕ × List ℕ) → Outcome
+call m l work more parts =
+    let n = firstHit (mapChecks m work ++ more) in
+    record { answer = answer n l; stores = workAfter m n work ∷ map (λ p. storeAfter n (p .0) (p .1)) parts }
+
+-- THE THREE CALLS
+
 unfoldable pub size : Map → List ℕ → Outcome
-size m work =
-    let l = cutList m in
-    let n = firstHit (mapChecks m work) in
-    record { answer = answer n l; stores = workAfter m n work ∷ [] }
+size m work = call m (cutList m) work [] []
 
 unfoldable pub graph : Map → List ℕ → List ℕ → List ℕ → List ℕ → Outcome
-graph m work ns ss ps =
-    let l = graphList m in
-    let n = firstHit (mapChecks m work ++ graphChecks l ns ss ps) in
-    record {
-      answer = answer n l;
-      stores = workAfter m n work ∷ storeAfter n (l .nodes) ns ∷ storeAfter n (l .segments) ss ∷ storeAfter n (l .points) ps ∷ [];
-    }
+graph m work ns ss ps = let l = graphList m in call m l work (graphChecks l ns ss ps) ((l .nodes, ns) ∷ (l .segments, ss) ∷ (l .points, ps) ∷ [])
 
 unfoldable pub whole : Map → List ℕ → List ℕ → List ℕ → List ℕ → List ℕ → List ℕ → List ℕ → Outcome
 whole m work ns ss ps rs cs fs =
     let l = cutList m in
-    let n = firstHit (mapChecks m work ++ (graphChecks l ns ss ps ++ faceChecks l rs cs fs)) in
-    record {
-      answer = answer n l;
-      stores =
-          workAfter m n work ∷
-          storeAfter n (l .nodes) ns ∷ storeAfter n (l .segments) ss ∷ storeAfter n (l .points) ps ∷
-          storeAfter n (l .references) rs ∷ storeAfter n (l .contours) cs ∷ storeAfter n (l .faces) fs ∷ [];
-    }
+    call m l work
+    (graphChecks l ns ss ps ++ faceChecks l rs cs fs)
+    ((l .nodes, ns) ∷ (l .segments, ss) ∷ (l .points, ps) ∷ (l .references, rs) ∷ (l .contours, cs) ∷ (l .faces, fs) ∷ [])
