@@ -50,9 +50,9 @@ every-graph m work ns ss ps =
 
 pub every-whole : (m : Map) (work ns ss ps rs cs fs : List ℕ)
     → let l = cutList m in
-      Answered (mapRows m work ++ (graphRows l ns ss ps ++ faceRows l rs cs fs)) m l work
-      ((l .nodes, ns) ∷ (l .segments, ss) ∷ (l .points, ps) ∷ (l .references, rs) ∷ (l .contours, cs) ∷ (l .faces, fs) ∷ [])
-      (whole m work ns ss ps rs cs fs)
+    Answered (mapRows m work ++ (graphRows l ns ss ps ++ faceRows l rs cs fs)) m l work
+    ((l .nodes, ns) ∷ (l .segments, ss) ∷ (l .points, ps) ∷ (l .references, rs) ∷ (l .contours, cs) ∷ (l .faces, fs) ∷ [])
+    (whole m work ns ss ps rs cs fs)
 unfolding whole
 every-whole m work ns ss ps rs cs fs =
     let l = cutList m in
