@@ -50,46 +50,62 @@ pub record Sharp : Type 0 where
   pub but-references : ButReferences (cutList (pair 0 1)) (cutList (pair 1 0))
   pub references-needed : Apart (pair 0 1) (pair 1 0)
 
--- no points where there is no segment
-beyond : (l : CutList) (i : ℕ) → length (l .segments) ≤ 8 * i → pointsOf l i ≡ []
-beyond l i h = rw (List·getD-eq-default (l .segments) 0 {n = 8 * i + 1} (omega arith))
-
--- each pixel has one segment, a ring, with the same points
-one-ring : (length (cutList (pixel 1) .segments) ≡ 8) × (length (cutList (pixel 2) .segments) ≡ 8) × (pointsOf (cutList (pixel 1)) 0 ≡ pointsOf (cutList (pixel 2)) 0)
-unfolding keep flat upto among label northwest picture sameDart toX toY turned leftAt left right crack degree node wayOn onward following meets ending walk fuel on visit trace row rows out corners nodes segments pixels labelOf lesser lesser3 least rounds firsts backwards refs steps firstStep lastStep outEntry keeps successor turn region isOpen next round enter discover contours insert sorted islands besideAt islandOf face faces nodeRecord nodeWords nodeAt pointRecords pointWords segmentWords contoursOf contourWords faceWords cuts cutList
-one-ring = (refl, refl, refl)
-
-ring-points : (i : ℕ) → pointsOf (cutList (pixel 1)) i ≡ pointsOf (cutList (pixel 2)) i
-ring-points zero = one-ring .2
-ring-points (suc i) = beyond (cutList (pixel 1)) (suc i) (omega (arith, one-ring .0)) ∙ sym (beyond (cutList (pixel 2)) (suc i) (omega (arith, one-ring .1)))
-
 -- two pixels: the crack between them, and a way round each
 abbrev Pair : ℕ → ℕ → Type 0
 Pair a b =
     (cutList (pair a b) .points ≡ 1 ∷ 0 ∷ 2 ∷ 0 ∷ 2 ∷ 1 ∷ 1 ∷ 1 ∷ 1 ∷ 0 ∷ 1 ∷ 1 ∷ 1 ∷ 0 ∷ 0 ∷ 0 ∷ 0 ∷ 1 ∷ 1 ∷ 1 ∷ [])
     × (cutList (pair a b) .contours ≡ 0 ∷ 2 ∷ []) × (cutList (pair a b) .faces ≡ 0 ∷ 0 ∷ 1 ∷ [])
 
-left-painted : Pair 0 1
-unfolding keep flat upto among label northwest picture sameDart toX toY turned leftAt left right crack degree node wayOn onward following meets ending walk fuel on visit trace row rows out corners nodes segments pixels labelOf lesser lesser3 least rounds firsts backwards refs steps firstStep lastStep outEntry keeps successor turn region isOpen next round enter discover contours insert sorted islands besideAt islandOf face faces nodeRecord nodeWords nodeAt pointRecords pointWords segmentWords contoursOf contourWords faceWords cuts cutList
-left-painted = (refl, refl, refl)
+-- what the rules compute on these maps
+record Computed : Type 0 where
+  -- an unpainted pixel has one segment, a ring
+  one : length (cutList (pixel 1) .segments) ≡ 8
+  other : length (cutList (pixel 2) .segments) ≡ 8
+  same-ring : pointsOf (cutList (pixel 1)) 0 ≡ pointsOf (cutList (pixel 2)) 0
+  no-face : ButPoints (cutList (pixel 1)) (cutList (pixel 2))
+  same-points : cutList (pixel 0) .points ≡ cutList (pixel 1) .points
+  same-faces : ButPoints (cutList (pair 0 OUTSIDE)) (cutList (pair OUTSIDE 0))
+  left-painted : Pair 0 1
+  right-painted : Pair 1 0
 
-right-painted : Pair 1 0
+computed : Computed
 unfolding keep flat upto among label northwest picture sameDart toX toY turned leftAt left right crack degree node wayOn onward following meets ending walk fuel on visit trace row rows out corners nodes segments pixels labelOf lesser lesser3 least rounds firsts backwards refs steps firstStep lastStep outEntry keeps successor turn region isOpen next round enter discover contours insert sorted islands besideAt islandOf face faces nodeRecord nodeWords nodeAt pointRecords pointWords segmentWords contoursOf contourWords faceWords cuts cutList
-right-painted = (refl, refl, refl)
+computed = record {
+  one = refl;
+  other = refl;
+  same-ring = refl;
+  no-face = record { references = refl; contours = refl; faces = refl };
+  same-points = refl;
+  same-faces = record { references = refl; contours = refl; faces = refl };
+  left-painted = (refl, refl, refl);
+  right-painted = (refl, refl, refl);
+}
 
+-- no points where there is no segment
+beyond : (l : CutList) (i : ℕ) → length (l .segments) ≤ 8 * i → pointsOf l i ≡ []
+beyond l i h = rw (List·getD-eq-default (l .segments) 0 {n = 8 * i + 1} (omega arith))
+
+ring-points : (i : ℕ) → pointsOf (cutList (pixel 1)) i ≡ pointsOf (cutList (pixel 2)) i
+ring-points zero = computed .same-ring
+ring-points (suc i) = beyond (cutList (pixel 1)) (suc i) (omega (arith, computed .one)) ∙ sym (beyond (cutList (pixel 2)) (suc i) (omega (arith, computed .other)))
+
+-- a painted label is like none but itself
 painted-once : (b : ℕ) → 1 ≤ b → Alike 1 0 b → ⊥
 painted-once b h (inl p) = let e = p .0 in omega arith
 painted-once b h (inr p) = let e = p .0 in omega arith
 
 pub sharp : Sharp
-unfolding keep flat upto among label northwest picture sameDart toX toY turned leftAt left right crack degree node wayOn onward following meets ending walk fuel on visit trace row rows out corners nodes segments pixels labelOf lesser lesser3 least rounds firsts backwards refs steps firstStep lastStep outEntry keeps successor turn region isOpen next round enter discover contours insert sorted islands besideAt islandOf face faces nodeRecord nodeWords nodeAt pointRecords pointWords segmentWords contoursOf contourWords faceWords cuts cutList
-sharp = record {
-  shared = record { points = ring-points; references = refl; contours = refl; faces = refl };
-  other-labels = λ e. omega arith;
-  same-points = refl;
-  faces-needed = painted-once 1 (omega arith);
-  but-points = record { references = refl; contours = refl; faces = refl };
-  points-needed = painted-once OUTSIDE (omega arith);
-  but-references = record { points = left-painted .0 ∙ sym (right-painted .0); contours = left-painted .1 ∙ sym (right-painted .1); faces = left-painted .2 ∙ sym (right-painted .2) };
-  references-needed = painted-once 1 (omega arith);
-}
+sharp =
+    let none = computed .no-face in
+    let left = computed .left-painted in
+    let right = computed .right-painted in
+    record {
+      shared = record { points = ring-points; references = none .references; contours = none .contours; faces = none .faces };
+      other-labels = λ e. omega arith;
+      same-points = computed .same-points;
+      faces-needed = painted-once 1 (omega arith);
+      but-points = computed .same-faces;
+      points-needed = painted-once OUTSIDE (omega arith);
+      but-references = record { points = left .0 ∙ sym (right .0); contours = left .1 ∙ sym (right .1); faces = left .2 ∙ sym (right .2) };
+      references-needed = painted-once 1 (omega arith);
+    }
