@@ -5,7 +5,7 @@ use mathlib.Core.Bool.{Bool, true, false, not, _&&_}
 use mathlib.Core.List.{List, [], _∷_, _++_, List·Memᴰ as In, List·Memᴰ·head as here, Memᴰ·append-left as in-left, Memᴰ·append-right as in-right}
 use native.Mathlib.Omega.{arith}
 use lib.ListN.{length, getD, length-append}
-use lib.Seq.{sets, length-sets}
+use lib.Seq.{sets}
 use Rattle.rules.specs.Lists.{flat}
 use Rattle.rules.specs.Picture.{Picture, picture, rightOf, Dart, crack}
 use Rattle.rules.specs.Graph.{on, trace, corners, nodes, segments}
@@ -45,23 +45,7 @@ use Rattle.graph.proofs.Along.{walk-points}
 use Rattle.graph.proofs.Numbering.{nodes-in, nodes-few}
 use Rattle.graph.proofs.Listing.{bends-few, corner-nth, noded-kept}
 use Rattle.graph.proofs.Loops.{Course, Through, due, goes, waysOfNodes, eastsOfBends}
-use Rattle.graph.proofs.Stages.{visit-old, visit-new, trace-adds, few, entries-more, length-entries, end-corner, marks-kept, seen-more, made, record-made}
-
--- LENGTHS STAY
-
-pub record Same (t t′ : State) : Type 0 where
-  pub work : length (t′ .work) ≡ length (t .work)
-  pub nodes : length (t′ .nodes) ≡ length (t .nodes)
-  pub segments : length (t′ .segments) ≡ length (t .segments)
-  pub points : length (t′ .points) ≡ length (t .points)
-
-pub same-lengths : (s : Size) (ls : List ℕ) (o : State) (k l : List Dart) (t t′ : State) → Stage s ls o k t → Stage s ls o l t′ → Same t t′
-same-lengths s ls o k l t t′ a b = record {
-  work = b .kept .long ∙ sym (a .kept .long);
-  nodes = ap length (b .outs) ∙ length-entries (pic s ls) (o .nodes) 0 (b .ss) ∙ sym (ap length (a .outs) ∙ length-entries (pic s ls) (o .nodes) 0 (a .ss));
-  segments = ap length (b .records) ∙ length-sets (o .segments) 0 (segmentWords (pic s ls) 0 (b .ss)) ∙ sym (ap length (a .records) ∙ length-sets (o .segments) 0 (segmentWords (pic s ls) 0 (a .ss)));
-  points = ap length (b .corners) ∙ length-sets (o .points) 0 (pointWords (b .ss)) ∙ sym (ap length (a .corners) ∙ length-sets (o .points) 0 (pointWords (a .ss)));
-}
+use Rattle.graph.proofs.Stages.{visit-old, visit-new, trace-adds, few, entries-more, end-corner, marks-kept, seen-more, made, record-made}
 
 -- ONE SEGMENT MORE
 
@@ -198,6 +182,12 @@ pub around-crack : (P : Picture) (a : Around) (w : Walker) → a ≡ aroundOf P 
 around-crack P a w e = ap (λ (a : Around). crackIn a (dir (w .d))) e ∙ crack-in P (w .x) (w .y) (dir (w .d))
 
 -- lengths stay over several calls
+pub record Same (t t′ : State) : Type 0 where
+  pub work : length (t′ .work) ≡ length (t .work)
+  pub nodes : length (t′ .nodes) ≡ length (t .nodes)
+  pub segments : length (t′ .segments) ≡ length (t .segments)
+  pub points : length (t′ .points) ≡ length (t .points)
+
 pub same-then : {t t′ t″ : State} → Same t t′ → Same t′ t″ → Same t t″
 same-then a b = record { work = b .work ∙ a .work; nodes = b .nodes ∙ a .nodes; segments = b .segments ∙ a .segments; points = b .points ∙ a .points }
 

@@ -8,7 +8,7 @@ use lib.Seq.{sets}
 use Rattle.rules.specs.Graph.{nodes, segments}
 use Rattle.rules.specs.Face.{faces}
 use Rattle.rules.specs.Records.{contoursOf}
-use Rattle.rules.specs.Calls.{Map, pictureOf, CutList, cuts, graphList, cutList, Answer as RulesAnswer, counted, refused, Check, firstHit, mapChecks, short, graphChecks, faceChecks, answer, storeAfter, call, graph, size, whole, workWords, workAfter}
+use Rattle.rules.specs.Calls.{Map, pictureOf, CutList, cuts, graphList, cutList, counted, refused, Check, firstHit, mapChecks, short, graphChecks, faceChecks, answer, storeAfter, call, graph, size, whole, workWords}
 use Rattle.rules.proofs.Tracing.Partition.{describes}
 use Rattle.rules.proofs.Tracing.Counts.{has-step}
 use Rattle.rules.proofs.CutList.Lengths.{length-nodes, length-segments, length-points, length-contours, length-faces}

@@ -5,11 +5,12 @@ use mathlib.Core.Path.{_≡_, refl, sym, ap, _∙_}
 use mathlib.Core.List.{List, [], _∷_, _++_}
 use native.Mathlib.Omega.{arith}
 use native.Mathlib.Decide.{ℕ-discrete}
+use lib.Dec.{ltb}
 use lib.ListN.{length}
 use borrow.Author.Tests.{lt-ltb, le-ltb, eq-eqb, ne-eqb, ltb-false}
 use Rattle.mosaic.specs.declared.Answer.{Answer}
 use Rattle.mosaic.specs.Outcome.{answerOf}
-use Rattle.mosaic.specs.Counted.{roomChecks}
+use Rattle.mosaic.specs.Counted.{orElse}
 use Rattle.rules.specs.Calls.{counted, Map, Check, firstHit, workWords, mapChecks, CutList, short, graphChecks, faceChecks}
 
 -- ANY CHECKS, each with a number above 0
@@ -39,6 +40,14 @@ hit-late (c ∷ cs) ds p e = go (c .hits) e (hit-late cs ds (p .1))
         → _≡_ {A = ℕ} (elim b [ true ↦ c .number | false ↦ firstHit (cs ++ ds) ]) (firstHit ds)
     go true e f = absurd (let h = p .0 in omega arith)
     go false e f = f e
+
+-- so the checks of two lists one after the other
+pub hits-or : (cs ds : List Check) → Positive cs → orElse (firstHit cs) (firstHit ds) ≡ firstHit (cs ++ ds)
+hits-or cs ds p =
+    elim (ℕ-discrete (firstHit cs) 0) [
+      | yes e ↦ rw (eq-eqb (firstHit cs) 0 e, orElse) (sym (hit-late cs ds p e))
+      | no n ↦ rw (ne-eqb (firstHit cs) 0 n, orElse) (sym (hit-early cs ds p n))
+    ]
 
 -- the number is 0 only where neither those nor these hit
 pub both-miss : (cs ds : List Check) → Positive cs → firstHit (cs ++ ds) ≡ 0 → (firstHit cs ≡ 0) × (firstHit ds ≡ 0)
@@ -85,24 +94,7 @@ module _ (m : Map) (work : List ℕ) where
 abbrev pub three : ℕ → Bool → Bool → Bool → List Check
 three n s t u = record { number = n; hits = s } ∷ record { number = n + 1; hits = t } ∷ record { number = n + 2; hits = u } ∷ []
 
-module _ (n : ℕ) (s t u : Bool) where
-  pub first-short : s ≡ true → n ≡ firstHit (three n s t u)
-  unfolding firstHit
-  first-short e = rw (e, firstHit)
-
-  pub second-short : s ≡ false → t ≡ true → n + 1 ≡ firstHit (three n s t u)
-  unfolding firstHit
-  second-short d e = rw (d, e, firstHit)
-
-  pub third-short : s ≡ false → t ≡ false → u ≡ true → n + 2 ≡ firstHit (three n s t u)
-  unfolding firstHit
-  third-short d e f = rw (d, e, f, firstHit)
-
-  pub none-short : s ≡ false → t ≡ false → u ≡ false → 0 ≡ firstHit (three n s t u)
-  unfolding firstHit
-  none-short d e f = rw (d, e, f, firstHit)
-
--- and if the number is 0, none is
+-- if the number is 0, none is short
 pub all-miss : (n : ℕ) (s t u : Bool) → 0 < n → firstHit (three n s t u) ≡ 0 → (s ≡ false) × (t ≡ false) × (u ≡ false)
 unfolding firstHit
 all-miss n true t u h e = absurd (omega arith)
@@ -114,14 +106,25 @@ pub room : (p : ℕ) (store words : List ℕ) → short p store words ≡ false 
 unfolding short
 room p store words e = ltb-false (length store / p) (length words / p) e
 
+-- one check by itself, of a store that holds a records and must hold n
+abbrev pub lone : ℕ → ℕ → ℕ → Check
+lone number a n = record { number = number; hits = ltb a n }
+
+-- three such checks, one after the other
+pub in-turn : (c d e : Check) → 0 < c .number → 0 < d .number → {n s o t u : ℕ} → n ≡ orElse s o → o ≡ orElse t u
+    → s ≡ firstHit (c ∷ []) → t ≡ firstHit (d ∷ []) → u ≡ firstHit (e ∷ []) → n ≡ firstHit (c ∷ d ∷ e ∷ [])
+in-turn c d e hc hd {n} {s} {o} {t} {u} pn po ps pt pu =
+    let later : o ≡ firstHit (d ∷ e ∷ []) = po ∙ (λ i. orElse (pt i) (pu i)) ∙ hits-or (d ∷ []) (e ∷ []) (hd, tt) in
+    pn ∙ (λ i. orElse (ps i) (later i)) ∙ hits-or (c ∷ []) (d ∷ e ∷ []) (hc, tt)
+
 -- the rules' checks are such
 pub graph-room : (a : Answer) (l : CutList) (ns ss ps : List ℕ) → answerOf a ≡ counted 0 l
-    → roomChecks 4 (length ns / 6) (a .nodes) (length ss / 8) (a .segments) (length ps / 2) (a .points) ≡ graphChecks l ns ss ps
+    → lone 4 (length ns / 6) (a .nodes) ∷ lone 5 (length ss / 8) (a .segments) ∷ lone 6 (length ps / 2) (a .points) ∷ [] ≡ graphChecks l ns ss ps
 unfolding graphChecks short counted
 graph-room a l ns ss ps k = rw (ap (λ b. b .nodes) k, ap (λ b. b .segments) k, ap (λ b. b .points) k)
 
 pub face-room : (a : Answer) (l : CutList) (rs cs fs : List ℕ) → answerOf a ≡ counted 0 l
-    → roomChecks 7 (length rs) (a .references) (length cs / 2) (a .contours) (length fs / 3) (a .faces) ≡ faceChecks l rs cs fs
+    → lone 7 (length rs) (a .references) ∷ lone 8 (length cs / 2) (a .contours) ∷ lone 9 (length fs / 3) (a .faces) ∷ [] ≡ faceChecks l rs cs fs
 unfolding faceChecks short counted
 face-room a l rs cs fs k =
     let single : (n : ℕ) → n / 1 ≡ n = λ n. omega arith in

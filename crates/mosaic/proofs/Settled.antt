@@ -1,12 +1,12 @@
 -- What the number of a call says of its outcome.
-use Prim.Native.Nat.{ℕ, _+_, _*_, _≤_}
+use Prim.Native.Nat.{ℕ, _≤_}
 use mathlib.Core.Bool.{Bool, true, false}
 use mathlib.Core.Path.{_≡_, refl, sym, ap, _∙_}
 use mathlib.Core.List.{List, [], _∷_, _++_, map}
 use native.Mathlib.Omega.{arith}
 use lib.ListN.{length, drop, replicate}
 use borrow.Author.Tests.{le-leb, lt-leb}
-use Rattle.rules.specs.Calls.{Map, CutList, Answer, counted, refused, Check, firstHit, workWords, mapChecks, early, answer, workAfter, storeAfter, Outcome, call}
+use Rattle.rules.specs.Calls.{Map, CutList, counted, refused, Check, firstHit, workWords, mapChecks, early, answer, workAfter, storeAfter, Outcome, call}
 use Rattle.mosaic.proofs.Outcomes.{store-kept}
 
 -- the stores as they were lent, and with the words that belong into them at the front

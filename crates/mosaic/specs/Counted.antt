@@ -1,19 +1,17 @@
 -- The number that stores of given lengths get, whatever cut list has the counts of an answer.
-use Prim.Native.Nat.{ℕ, _+_}
+use Prim.Native.Nat.{ℕ}
+use mathlib.Core.Bool.{true, false}
 use mathlib.Core.Path.{_≡_}
-use mathlib.Core.List.{List, [], _∷_, _++_}
-use lib.Dec.{ltb}
+use mathlib.Core.List.{List, _++_}
+use lib.Dec.{eqb}
 use lib.ListN.{length}
-use Rattle.rules.specs.Calls.{CutList, counted, Check, firstHit, graphChecks, faceChecks}
+use Rattle.rules.specs.Calls.{CutList, counted, firstHit, graphChecks, faceChecks}
 use Rattle.mosaic.specs.declared.Answer.{Answer}
 use Rattle.mosaic.specs.Outcome.{answerOf}
 
--- three stores hold a, b and c records and must hold x, y and z
-abbrev pub roomChecks : ℕ → ℕ → ℕ → ℕ → ℕ → ℕ → ℕ → List Check
-roomChecks first a x b y c z =
-    record { number = first; hits = ltb a x } ∷
-    record { number = first + 1; hits = ltb b y } ∷
-    record { number = first + 2; hits = ltb c z } ∷ []
+-- the first number that is not 0
+abbrev pub orElse : ℕ → ℕ → ℕ
+orElse n m = elim (eqb n 0) [ true ↦ m | false ↦ n ]
 
 abbrev pub GraphRoom : Answer → ℕ → ℕ → ℕ → ℕ → Type 0
 GraphRoom a nodes segments points n =

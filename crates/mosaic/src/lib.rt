@@ -5,6 +5,7 @@ use lattice::Size;
 ghost use mathlib.Core.Path.{_≡_};
 ghost use mathlib.Core.List.{[], _∷_};
 ghost use Prim.Native.Nat.{_*_, _≤_};
+ghost use lib.Dec.{ltb};
 ghost use lib.ListN.{length, replicate};
 ghost use lib.Seq.{sets};
 ghost use Rattle.rules.specs.Calls.{mapChecks, firstHit, refused, size as sizeOf, graph as graphOf, whole as wholeOf};
@@ -13,7 +14,7 @@ ghost use Rattle.lattice.specs.Size.{Map, pic};
 ghost use Rattle.lattice.specs.Planes.{plane};
 ghost use Rattle.assemble.specs.Assembly.{Standing};
 ghost use Rattle.mosaic.specs.Outcome.{mapOf, mapWith, answerOf, graphAnswer, answerWords, outcome, answered};
-ghost use Rattle.mosaic.specs.Counted.{roomChecks, GraphRoom, FaceRoom, AllRoom};
+ghost use Rattle.mosaic.specs.Counted.{orElse, GraphRoom, FaceRoom, AllRoom};
 ghost use Rattle.mosaic.specs.Steps.{GraphCounted, CountsGraph, CountsFaces, GraphRoomy, GraphWritten, FacesRoomy, FacesWritten};
 
 // The number of document 01, then the seven counts.
@@ -65,35 +66,36 @@ fn check_map(s: Size, labels: &[u32], work: &[u32]) -> u32
     0
 }
 
-// Of three stores, which hold a, b and c records and must hold x, y and z: the number of the first that is short, from `first` on.
-fn check_room(first: u32, a: usize, x: u32, b: usize, y: u32, c: usize, z: u32) -> u32
-    requires { ⌜ first ≤ 7 ⌝ }
-    ensures { λ r. ⌜ r ≡ firstHit (roomChecks first a x b y c z) ⌝ }
+// Of a store that holds `held` records and must hold `needed`: the number if it is short.
+fn short(number: u32, held: usize, needed: u32) -> u32
+    ensures { λ r. ⌜ r ≡ firstHit (record { number = number; hits = ltb held needed } ∷ []) ⌝ }
 {
-    if a < x as usize {
-        return first;
-    }
-    if b < y as usize {
-        return first + 1;
-    }
-    if c < z as usize {
-        return first + 2;
+    if held < needed as usize {
+        return number;
     }
     0
+}
+
+// Of two checks, in this order.
+fn or_else(first: u32, second: u32) -> u32
+    ensures { λ r. ⌜ r ≡ orElse first second ⌝ }
+{
+    if first != 0 {
+        return first;
+    }
+    second
 }
 
 // Of the words lent for nodes, segments and points: 4 to 6.
 fn check_graph(a: Answer, nodes: usize, segments: usize, points: usize) -> u32
     ensures { λ r. ⌜ GraphRoom a nodes segments points r ⌝ }
 {
-    check_room(
-        4,
-        nodes / 6,
-        a.nodes,
-        segments / 8,
-        a.segments,
-        points / 2,
-        a.points,
+    or_else(
+        short(4, nodes / 6, a.nodes),
+        or_else(
+            short(5, segments / 8, a.segments),
+            short(6, points / 2, a.points),
+        ),
     )
 }
 
@@ -101,14 +103,12 @@ fn check_graph(a: Answer, nodes: usize, segments: usize, points: usize) -> u32
 fn check_faces(a: Answer, references: usize, contours: usize, faces: usize) -> u32
     ensures { λ r. ⌜ FaceRoom a references contours faces r ⌝ }
 {
-    check_room(
-        7,
-        references,
-        a.references,
-        contours / 2,
-        a.contours,
-        faces / 3,
-        a.faces,
+    or_else(
+        short(7, references, a.references),
+        or_else(
+            short(8, contours / 2, a.contours),
+            short(9, faces / 3, a.faces),
+        ),
     )
 }
 
@@ -124,11 +124,10 @@ fn check_all(
 ) -> u32
     ensures { λ r. ⌜ AllRoom a nodes segments points references contours faces r ⌝ }
 {
-    let number = check_graph(a, nodes, segments, points);
-    if number != 0 {
-        return number;
-    }
-    check_faces(a, references, contours, faces)
+    or_else(
+        check_graph(a, nodes, segments, points),
+        check_faces(a, references, contours, faces),
+    )
 }
 
 // STEPS

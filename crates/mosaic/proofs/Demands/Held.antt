@@ -4,7 +4,7 @@ use Prim.Native.Nat.{ℕ, _<_}
 use mathlib.Core.Bool.{true}
 use mathlib.Core.Path.{_≡_, sym, subst}
 use mathlib.Core.List.{List}
-use Rattle.rules.specs.Picture.{Picture, Dart, left as leftLabel, crack}
+use Rattle.rules.specs.Picture.{Dart, left as leftLabel, crack}
 use Rattle.rules.specs.Graph.{segments}
 use Rattle.rules.specs.Face.{Face, faces, island}
 use Rattle.rules.specs.Describes.{Describes}

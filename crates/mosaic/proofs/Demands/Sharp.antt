@@ -2,14 +2,14 @@
 use Prim.Native.Nat.{ℕ, zero, suc, _+_, _*_, _≤_}
 use mathlib.Core.Path.{_≡_, refl, sym, _∙_}
 use mathlib.Core.Logic.{inl, inr}
-use mathlib.Core.List.{List, [], _∷_}
+use mathlib.Core.List.{[], _∷_}
 use native.Mathlib.Omega.{arith}
 use lib.ListN.{length, List·getD-eq-default}
 use Rattle.rules.specs.Lists.{keep, flat, upto, among}
 use Rattle.rules.specs.Picture.{OUTSIDE, label, northwest, picture, sameDart, toX, toY, turned, leftAt, left, right, crack, degree, node}
 use Rattle.rules.specs.Graph.{wayOn, onward, following, meets, ending, walk, fuel, on, visit, trace, row, rows, out, corners, nodes, segments}
 use Rattle.rules.specs.Face.{pixels, labelOf, lesser, lesser3, least, rounds, firsts, backwards, refs, steps, firstStep, lastStep, outEntry, keeps, successor, turn, region, isOpen, next, round, enter, discover, contours, insert, sorted, islands, besideAt, islandOf, face, faces}
-use Rattle.rules.specs.Records.{NONE, nodeRecord, nodeWords, nodeAt, pointRecords, pointWords, segmentWords, contoursOf, contourWords, faceWords}
+use Rattle.rules.specs.Records.{nodeRecord, nodeWords, nodeAt, pointRecords, pointWords, segmentWords, contoursOf, contourWords, faceWords}
 use Rattle.rules.specs.Calls.{Map, CutList, cuts, cutList, labelAt}
 use Rattle.rules.proofs.CutList.Agree.{Alike}
 use Rattle.rules.proofs.CutList.Unshared.{pointsOf, SameCuts}

@@ -1,7 +1,7 @@
 -- The step of a walk: from a crack that leads to no node, the one other crack of its corner.
 use mathlib.Core.Bool.{Bool, true, false, true≢false, or-comm}
 use mathlib.Core.Path.{_≡_, refl, sym, ap, _∙_}
-use Rattle.rules.specs.Picture.{Picture, sameDir, backOf, Dart, dart, turned, left, right, crack, degree, aheadY, aheadX}
+use Rattle.rules.specs.Picture.{Picture, sameDir, backOf, Dart, dart, turned, left, right, crack, aheadY, aheadX}
 use Rattle.rules.specs.Graph.{following, meets}
 use Rattle.rules.proofs.Lattice.Frame.{Framed}
 use Rattle.rules.proofs.Lattice.Darts.{dart-path, uncrack-same, turned-turned, turned-left, turned-right, turned-crack}
@@ -12,9 +12,6 @@ module _ {P : Picture} (F : Framed P) (a : Dart) (c : crack P a ≡ true) (k : m
   on-way : Way P (aheadX a) (aheadY a) (a .d) (following P a .d)
   unfolding turned following meets
   on-way = way P (aheadX a) (aheadY a) (a .d) k (turned-crack F a c)
-
-  pub following-two : degree P (aheadX a) (aheadY a) ≡ 2
-  following-two = on-way .two
 
   pub following-crack : crack P (following P a) ≡ true
   unfolding following

@@ -5,17 +5,16 @@ use mathlib.Core.Path.{_≡_, refl, sym, ap, _∙_}
 use mathlib.Core.Logic.{_⊎_, inl, inr, ⊎-elim, ⊎-map}
 use mathlib.Core.List.{List, [], _∷_, _++_, map, List·Memᴰ as In, List·Memᴰ·head as here, List·Memᴰ·tail as there, List·Memᴰ·not-nil as not-nil, Memᴰ·cast as in-cast, Memᴰ·append-left as in-left, Memᴰ·append-right as in-right, Memᴰ·map as in-map, Memᴰ·of-map as of-map}
 use native.Mathlib.Omega.{arith}
-use native.Mathlib.Nat.{mul-comm, mul-assoc, mul-le-mul}
+use native.Mathlib.Nat.{mul-comm}
 use lib.ListN.{length, length-append, length-map}
 use Rattle.rules.specs.Lists.{flat, Distinct}
-use Rattle.rules.specs.Picture.{Picture, OUTSIDE, Dir, N, E, S, W, sameDir, Dart, dart, toX, toY, turned, crack}
-use Rattle.rules.specs.Graph.{rows, corners, segments, eastSouth, cracks}
+use Rattle.rules.specs.Picture.{Picture, Dir, N, E, S, W, sameDir, Dart, dart, toX, toY, turned, crack}
+use Rattle.rules.specs.Graph.{rows, corners, eastSouth, cracks}
 use Rattle.rules.proofs.Lattice.Frame.{Framed}
 use Rattle.rules.proofs.Lattice.Darts.{turned-turned, turned-crack, crack-x, crack-y, crack-to-x, crack-to-y}
 use Rattle.rules.proofs.Ground.Lists.{keep-in, in-keep, keep-distinct, flat-many}
 use Rattle.rules.proofs.Ground.Pigeonhole.{pigeonhole}
 use Rattle.rules.proofs.Lattice.Grid.{in-rows, length-rows, corners-distinct, crack-corner}
-use Rattle.rules.proofs.Tracing.Partition.{describes}
 use Rattle.rules.specs.Describes.{On, Once, Segment, Describes}
 
 -- THE CRACKS: those that head E or S, each once
@@ -170,16 +169,3 @@ module _ {P : Picture} (F : Framed P) where
       let q : length eastern ≡ suc (P .h) * P .w = length-map (rows (P .w) (suc (P .h)) 0) (λ c. dart (c .0) (c .1) E) ∙ length-rows (P .w) (suc (P .h)) 0 in
       let r : length southern ≡ P .h * suc (P .w) = length-map (rows (suc (P .w)) (P .h) 0) (λ c. dart (c .0) (c .1) S) ∙ length-rows (suc (P .w)) (P .h) 0 in
       omega (arith, length-append eastern southern, mul-comm (P .w) (P .h))
-
--- OF AN ACCEPTED MAP: every reference is below the word that says none
-
-pub references-fit : {P : Picture} → Framed P → {ss : List (List Dart)} → Describes P ss → P .w ≤ 16384 → P .h ≤ 16384 → 2 * length ss < OUTSIDE
-references-fit {P} F D w h = omega (arith, segment-count F D, crack-count F, mul-le-mul w h, mul-assoc 2 (P .w) (P .h))
-
--- OF THE TRACED SEGMENTS
-
-pub traced-steps : {P : Picture} → Framed P → length (flat (segments P)) ≡ length (cracks P)
-traced-steps F = step-count F (describes F)
-
-pub traced-segments : {P : Picture} → Framed P → length (segments P) ≤ length (cracks P)
-traced-segments F = segment-count F (describes F)

@@ -11,7 +11,7 @@ use Rattle.rules.proofs.Lattice.Frame.{Framed}
 use Rattle.rules.proofs.Lattice.Darts.{turned-turned, turned-crack}
 use Rattle.rules.proofs.Lattice.WayOn.{following-crack, following-back}
 use Rattle.rules.proofs.Ground.Lists.{flat-snoc, in-last}
-use Rattle.rules.proofs.Lattice.Edges.{on-true, on-is, on-false, on-left, on-right, on-cases, once-append, on-back, on-turn}
+use Rattle.rules.proofs.Lattice.Edges.{on-true, on-false, on-left, on-right, on-cases, once-append, on-back, on-turn}
 use Rattle.rules.proofs.Ground.Orbits.{Before, walk-before, walk-next, walk-last}
 use Rattle.rules.proofs.Tracing.Walks.{Steps, going-meets, back-at, the-walk, walk-crack, walk-once, walk-ring}
 use Rattle.rules.proofs.Lattice.Grid.{crack-out, crack-out-node, out-node}
@@ -216,7 +216,3 @@ module _ {P : Picture} (F : Framed P) where
     whole = λ a c. trace-holds (out (corners P)) (trace P [] (out (nodes P))) a (crack-out F a c) c;
     once = segments-good .once;
   }
-
-  -- so each crack is walked
-  pub cracks-walked : (a : Dart) → crack P a ≡ true → on a (flat (segments P)) ≡ true
-  cracks-walked a c = on-is a (flat (segments P)) (describes .whole a c)
