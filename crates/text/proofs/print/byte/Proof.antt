@@ -1,0 +1,24 @@
+-- `text::print::byte` meets its contract.
+use borrow.Author.Needs.{needs}
+use denote.Ref.{now}
+use Rattle.text.proofs.Printing.{put-in, put-out}
+use Rattle.text.proofs.print.byte.Statement.{statement}
+use Rattle.text.proofs.print.byte.Tie as tie
+
+slice-write-out : tie.Need-slice-write-out
+slice-write-out c = search needs
+
+add-result : tie.Need-add-result
+add-result c = search needs
+
+same-length : tie.Need-same-length
+same-length c = search needs
+
+returns : tie.Need-returns
+returns c = let a = c .before .args in put-in (now (a .out)) (a .at) (a .b) (c .if1 .taken)
+
+returns-2 : tie.Need-returns-2
+returns-2 c = let a = c .before .args in put-out (now (a .out)) (a .at) (a .b) (c .before .pre) (c .if1 .left)
+
+pub byte-spec : {M : Type 1} → statement M
+byte-spec = tie.close (tie.spec slice-write-out add-result same-length returns returns-2)

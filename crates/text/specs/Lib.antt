@@ -1,0 +1,6 @@
+pub mod Bytes
+pub mod Grammar
+pub mod Parse
+pub mod Places
+pub mod Output
+pub mod Program
