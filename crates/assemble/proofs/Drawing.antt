@@ -1,5 +1,5 @@
 -- The words of the definitions' records stand for their segments.
-use Prim.Native.Nat.{ℕ, zero, suc, pred, _+_, _*_, _-_, _/_, _%_, _≤_, _<_}
+use Prim.Native.Nat.{ℕ, suc, _+_, _*_, _-_, _/_, _%_, _≤_, _<_}
 use mathlib.Core.Path.{_≡_, refl, sym, ap, ap₂, subst, _∙_}
 use mathlib.Core.Bool.{Bool, true, false, cond, not, _&&_, true≢false}
 use mathlib.Core.Logic.{_⊎_, inl, inr}
@@ -10,11 +10,10 @@ use native.Mathlib.Decide.{ℕ-discrete}
 use lib.Dec.{eqb}
 use lib.ListN.{length, getD}
 use borrow.Author.Tests.{eq-eqb, ne-eqb, eqb-true}
-use Rattle.rules.specs.Lists.{flat}
-use Rattle.rules.specs.Picture.{Picture, picture, Dir, N, E, S, W, code, backOf, Dart, dart, turned, left, right, crack, node, aheadX, aheadY}
+use Rattle.rules.specs.Picture.{Picture, picture, Dir, N, E, S, W, code, backOf, Dart, dart, turned, left, crack, node, aheadX, aheadY}
 use Rattle.rules.specs.Graph.{nodes, corners, meets}
-use Rattle.rules.specs.Face.{noDart, steps, firstStep, lastStep, outEntry, region, isOpen, turn, successor, next}
-use Rattle.rules.specs.Records.{nodeAt, nodeRecord, nodeWords, segmentWords, pointRecords, NONE}
+use Rattle.rules.specs.Face.{steps, firstStep, lastStep, outEntry, region, isOpen, turn, successor, next}
+use Rattle.rules.specs.Records.{nodeAt, nodeRecord, pointRecords, NONE}
 use Rattle.rules.proofs.Lattice.Frame.{Framed}
 use Rattle.rules.proofs.Ground.Booleans.{and-left, and-right}
 use Rattle.rules.proofs.Lattice.Darts.{turned-turned, turned-crack, crack-to-x, crack-to-y}
@@ -22,6 +21,7 @@ use Rattle.rules.proofs.Ground.Lists.{keep-in, in-keep, keep-few}
 use Rattle.rules.proofs.Lattice.Grid.{crack-corner, length-rows}
 use Rattle.rules.proofs.References.Steps.{forward-steps}
 use Rattle.rules.proofs.References.Ends.{Reference, reference, last-in, first-crack, last-crack, step-left, open-last, first-reversed, last-reversed, region-reversed}
+use Rattle.rules.proofs.CutList.Records.{record-of, segment-word, node-word, firstPoint, point-word}
 use Rattle.rules.proofs.Tracing.Counts.{has-step, segment-count, crack-count}
 use Rattle.rules.specs.Describes.{Open, Ring, Describes}
 use Rattle.lattice.specs.declared.Size.{Size}
@@ -34,48 +34,7 @@ use Rattle.lattice.proofs.Frame.{framed}
 use Rattle.assemble.specs.Words.{wordIn, regionIn, openIn, headingIn, nodeIn, nextAt, stepIn, firstIn}
 use Rattle.assemble.specs.Drawn.{Drawn, Pointed, Written}
 use Rattle.assemble.proofs.FirstSteps.{first-forward, first-back}
-use Rattle.assemble.proofs.Points.{step-is, first-x, first-y, second-x, second-y, last-points, firstPoint, point-word}
-
--- A RECORD among records of one size
-
--- the eight words of a segment whose first point is the point f
-record-of : Picture → ℕ → List Dart → List ℕ
-record-of P f s =
-    let a = getD s 0 noDart in
-    let z = getD s (pred (length s)) noDart in
-    f ∷ suc (length s) ∷ nodeAt (nodes P) 0 (a .x) (a .y) ∷ nodeAt (nodes P) 0 (aheadX z) (aheadY z) ∷
-    left P a ∷ right P a ∷ code (a .d) ∷ cond (node P (a .x) (a .y)) (code (z .d)) 0 ∷ []
-
-segment-word : (P : Picture) (ss : List (List Dart)) (p i k f : ℕ) → f ≡ p + firstPoint ss i → i < length ss → k < 8
-    → getD (segmentWords P p ss) (8 * i + k) 0 ≡ getD (record-of P f (getD ss i [])) k 0
-unfolding segmentWords record-of firstPoint
-segment-word P [] p i k f e h m = absurd (omega arith)
-segment-word P (s ∷ ss) p zero zero f e h m = omega arith
-segment-word P (s ∷ ss) p zero (suc zero) f e h m = refl
-segment-word P (s ∷ ss) p zero (suc (suc zero)) f e h m = refl
-segment-word P (s ∷ ss) p zero (suc (suc (suc zero))) f e h m = refl
-segment-word P (s ∷ ss) p zero (suc (suc (suc (suc zero)))) f e h m = refl
-segment-word P (s ∷ ss) p zero (suc (suc (suc (suc (suc zero))))) f e h m = refl
-segment-word P (s ∷ ss) p zero (suc (suc (suc (suc (suc (suc zero)))))) f e h m = refl
-segment-word P (s ∷ ss) p zero (suc (suc (suc (suc (suc (suc (suc zero))))))) f e h m = refl
-segment-word P (s ∷ ss) p zero (suc (suc (suc (suc (suc (suc (suc (suc k)))))))) f e h m = absurd (omega arith)
-segment-word P (s ∷ ss) p (suc i) k f e h m =
-    let z : 8 * suc i + k ≡ suc (suc (suc (suc (suc (suc (suc (suc (8 * i + k)))))))) = omega arith in
-    rw z (segment-word P ss (p + suc (length s)) i k f (omega arith) (omega arith) m)
-
-node-word : (ss : List (List Dart)) (ns : List (ℕ × ℕ)) (n k : ℕ) → n < length ns → k < 6 → getD (nodeWords ss ns) (6 * n + k) 0 ≡ getD (nodeRecord ss (getD ns n (0, 0))) k 0
-unfolding nodeWords nodeRecord flat
-node-word ss [] n k h m = absurd (omega arith)
-node-word ss (c ∷ ns) zero zero h m = refl
-node-word ss (c ∷ ns) zero (suc zero) h m = refl
-node-word ss (c ∷ ns) zero (suc (suc zero)) h m = refl
-node-word ss (c ∷ ns) zero (suc (suc (suc zero))) h m = refl
-node-word ss (c ∷ ns) zero (suc (suc (suc (suc zero)))) h m = refl
-node-word ss (c ∷ ns) zero (suc (suc (suc (suc (suc zero))))) h m = refl
-node-word ss (c ∷ ns) zero (suc (suc (suc (suc (suc (suc k)))))) h m = absurd (omega arith)
-node-word ss (c ∷ ns) (suc n) k h m =
-    let e : 6 * suc n + k ≡ suc (suc (suc (suc (suc (suc (6 * n + k)))))) = omega arith in
-    rw e (node-word ss ns n k (omega arith) m)
+use Rattle.assemble.proofs.Points.{step-is, first-x, first-y, second-x, second-y, last-points}
 
 -- THE NUMBER of a node
 

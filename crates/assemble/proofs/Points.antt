@@ -1,19 +1,17 @@
 -- The words of the points: the first and the last step of each segment, read from them.
-use Prim.Native.Nat.{ℕ, zero, suc, pred, _+_, _*_, _<_}
+use Prim.Native.Nat.{ℕ, suc, pred, _+_, _*_}
 use mathlib.Core.Path.{_≡_, refl, _∙_}
 use mathlib.Core.Bool.{true}
-use mathlib.Core.List.{List, [], _∷_, List·Memᴰ as In, List·Memᴰ·head as here, List·Memᴰ·tail as there}
+use mathlib.Core.List.{List, [], _∷_}
 use native.Mathlib.Omega.{arith}
-use lib.ListN.{length, getD, length-append, List·getD-append}
-use lib.Seq.{getD-append-add}
+use lib.ListN.{length, getD}
 use borrow.Author.Tests.{lt-ltb, le-ltb}
-use Rattle.rules.specs.Lists.{flat, lastOf}
+use Rattle.rules.specs.Lists.{lastOf}
 use Rattle.rules.specs.Picture.{Picture, Dir, N, E, S, W, Dart, dart, toX, toY, aheadX, aheadY, crack}
 use Rattle.rules.specs.Describes.{Through}
-use Rattle.rules.specs.Records.{pointRecords, pointWords}
+use Rattle.rules.specs.Records.{pointRecords}
 use Rattle.rules.proofs.Lattice.Frame.{Framed}
 use Rattle.rules.proofs.Lattice.Darts.{dart-path}
-use Rattle.rules.proofs.CutList.Lengths.{length-records}
 use Rattle.lattice.specs.Walker.{dartOf}
 use Rattle.lattice.proofs.Ways.{dir-code}
 use Rattle.lattice.proofs.Frame.{north, west}
@@ -71,27 +69,3 @@ later a b l k = let e : 2 * suc (length l) + k ≡ suc (suc (2 * length l + k)) 
 pub last-points : (a : Dart) (l : List Dart) (k : ℕ) → getD (pointRecords (a ∷ l)) (2 * length l + k) 0 ≡ getD (pointRecords (lastOf a l ∷ [])) k 0
 last-points a [] k = let e : 2 * 0 + k ≡ k = omega arith in rw e
 last-points a (b ∷ l) k = later a b l k ∙ last-points b l k
-
--- THE POINTS of all
-
--- the number of the first point of the segment i
-unfoldable pub firstPoint : List (List Dart) → ℕ → ℕ
-firstPoint [] i = 0
-firstPoint (s ∷ ss) zero = 0
-firstPoint (s ∷ ss) (suc i) = suc (length s) + firstPoint ss i
-
-module _ (k : ℕ) where
-  pub point-word : (ss : List (List Dart)) → ((s : List Dart) → In s ss → 0 < length s) → (i : ℕ) → i < length ss → k < 2 * suc (length (getD ss i []))
-      → (2 * firstPoint ss i + k < length (pointWords ss)) × (getD (pointWords ss) (2 * firstPoint ss i + k) 0 ≡ getD (pointRecords (getD ss i [])) k 0)
-  unfolding pointWords flat firstPoint
-  point-word [] f i h l = absurd (omega arith)
-  point-word (s ∷ ss) f zero h l =
-      let n = length-records s (f s (here refl)) in
-      let e : 2 * 0 + k ≡ k = omega arith in
-      (omega (arith, n, length-append (pointRecords s) (pointWords ss)), rw e (List·getD-append (pointRecords s) (pointWords ss) 0 k (omega (arith, n))))
-  point-word (s ∷ ss) f (suc i) h l =
-      let n = length-records s (f s (here refl)) in
-      let r = point-word ss (λ s i. f s (there i)) i (omega arith) l in
-      let q = r .0 in
-      let e : 2 * (suc (length s) + firstPoint ss i) + k ≡ length (pointRecords s) + (2 * firstPoint ss i + k) = omega (arith, n) in
-      (omega (arith, n, length-append (pointRecords s) (pointWords ss)), rw e (getD-append-add (pointRecords s) (pointWords ss) (2 * firstPoint ss i + k) 0 ∙ r .1))

@@ -1,5 +1,6 @@
 -- The cut list: what its words determine, and that no two pictures share one.
 pub mod Lengths
+pub mod Records
 pub mod Counts
 pub mod Agree
 pub mod Words
