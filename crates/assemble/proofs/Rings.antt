@@ -13,7 +13,7 @@ use borrow.Author.Tests.{lt-ltb, le-ltb}
 use Rattle.rules.specs.Lists.{flat, keep, upto, among, Distinct}
 use Rattle.rules.specs.Picture.{Picture, OUTSIDE, Dart}
 use Rattle.rules.specs.Face.{refs, region, isOpen, next, discover, contours}
-use Rattle.rules.proofs.Ground.Lists.{keep-append, upto-snoc, in-among}
+use Rattle.rules.proofs.Ground.Lists.{keep-append, upto-snoc, upto-split, in-among}
 use Rattle.rules.proofs.Lattice.Frame.{Framed}
 use Rattle.rules.proofs.Contours.Rounds.{Live, next-live}
 use Rattle.rules.proofs.Contours.Discovery.{live-found}
@@ -26,7 +26,7 @@ use Rattle.assemble.specs.Trails.{LINK, firstOf, endOf, after, Along}
 use Rattle.assemble.specs.Stage.{isPainted, Listed, Room, trailOf, Stage, ringed, RingStage, Ready, Finds}
 use Rattle.assemble.proofs.Lists.{flat-each, flat-long}
 use Rattle.assemble.proofs.Changes.{changed-none, changed-then, set-first, set-second}
-use Rattle.assemble.proofs.Staging.{on-trail, listed-same, listed-more, upto-split}
+use Rattle.assemble.proofs.Staging.{on-trail, listed-same, listed-more}
 use Rattle.assemble.proofs.Trails.{cycle-along, ring-along}
 
 below-or-same : {q r : ℕ} → q < suc r → (q < r) ⊎ (q ≡ r)

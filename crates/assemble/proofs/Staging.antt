@@ -1,5 +1,5 @@
 -- Contours found one after the other.
-use Prim.Native.Nat.{ℕ, zero, suc, _+_, _*_, _-_, _≤_, _<_}
+use Prim.Native.Nat.{ℕ, suc, _+_, _*_, _-_, _≤_, _<_}
 use mathlib.Core.Path.{_≡_, refl, sym, ap, ap₂, subst, _∙_}
 use mathlib.Core.Bool.{Bool, true, false, cond, not, _&&_}
 use mathlib.Core.Logic.{_⊎_, inr, ⊎-elim}
@@ -13,7 +13,7 @@ use borrow.Author.Tests.{eq-eqb, ne-eqb, lt-ltb, le-ltb}
 use Rattle.rules.specs.Lists.{flat, keep, upto, among, lastOf}
 use Rattle.rules.specs.Picture.{Picture, OUTSIDE, Dart}
 use Rattle.rules.specs.Face.{refs, region, isOpen, next, round, enter, discover, contours}
-use Rattle.rules.proofs.Ground.Lists.{flat-snoc, keep-append, upto-snoc, among-in, in-among, not-among, none-among, length-upto}
+use Rattle.rules.proofs.Ground.Lists.{flat-snoc, keep-append, upto-snoc, upto-split, among-in, in-among, not-among, none-among, length-upto}
 use Rattle.rules.proofs.Ground.Orbits.{Linked, Walk}
 use Rattle.rules.proofs.Ground.Pigeonhole.{pigeonhole}
 use Rattle.rules.proofs.Lattice.Frame.{Framed}
@@ -118,14 +118,6 @@ module _ (P : Picture) (ss : List (List Dart)) where
   unfolding discover
   discover-append cs [] qs = refl
   discover-append cs (r ∷ rs) qs = discover-append (enter P ss cs r) rs qs
-
-pub upto-split : (m n a : ℕ) → upto (m + n) a ≡ upto m a ++ upto n (a + m)
-unfolding upto
-upto-split zero n a = let e : a + 0 ≡ a = omega arith in let z : 0 + n ≡ n = omega arith in rw (e, z)
-upto-split (suc m) n a =
-    let e : a + suc m ≡ suc a + m = omega arith in
-    let z : suc m + n ≡ suc (m + n) = omega arith in
-    rw (e, z) (ap (λ (l : List ℕ). a ∷ l) (upto-split m n (suc a)))
 
 -- no more are found on the way than in all
 found-few : (P : Picture) (ss : List (List Dart)) (paints r : ℕ) → r ≤ 2 * length ss → length (keep (isPainted P ss paints) (discover P ss [] (upto r 0))) ≤ length (contours P ss paints)

@@ -2,6 +2,8 @@
 pub mod Lengths
 pub mod Records
 pub mod Counts
+pub mod Values
+pub mod Parts
 pub mod Agree
 pub mod Words
 pub mod Unshared

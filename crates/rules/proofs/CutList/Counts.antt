@@ -16,9 +16,10 @@ use Rattle.rules.proofs.Ground.Lists.{keep-few}
 use Rattle.rules.proofs.Lattice.Frame.{Framed}
 use Rattle.rules.proofs.Lattice.Grid.{length-rows}
 use Rattle.rules.proofs.Tracing.Counts.{step-count, has-step, segment-count, crack-count}
+use Rattle.rules.proofs.Contours.Few.{contours-few}
 use Rattle.rules.proofs.Contours.Painted.{painted, contour-count, reference-count}
 use Rattle.rules.proofs.Faces.Faced.{faced, faces-few}
-use Rattle.rules.proofs.Faces.Counts.{contours-count, references-count}
+use Rattle.rules.proofs.Faces.Counts.{faces-pixels, contours-count, references-count}
 use Rattle.rules.proofs.CutList.Lengths.{length-nodes, length-segments, length-points, length-contours, length-faces}
 
 -- the counts are the numbers of the records, and steps the number of cracks
@@ -57,7 +58,9 @@ pub record Bounds (P : Picture) (a : Answer) : Type 0 where
   pub points : a .points ≡ a .steps + a .segments
   pub references : a .references ≤ 2 * a .segments
   pub contours : a .contours ≤ a .references
+  pub contours-few : a .contours ≤ suc (P .h) * suc (P .w)
   pub faces : a .faces ≤ a .contours
+  pub faces-few : a .faces ≤ P .w * P .h
 
 -- every count, and twice the segments, which no reference reaches, is below the word that says none
 pub record Words (a : Answer) : Type 0 where
@@ -92,5 +95,7 @@ module _ {P : Picture} (F : Framed P) {ss : List (List Dart)} (D : Describes P s
         points = omega (arith, k .points, k .steps, k .segments);
         references = omega (arith, k .references, k .segments, reference-count p, references-count F D b);
         contours = omega (arith, k .contours, k .references, contour-count p, references-count F D b, contours-count F D b);
+        contours-few = omega (arith, k .contours, contours-few F paints D b, contours-count F D b);
         faces = omega (arith, k .faces, k .contours, faces-few (faced F D b));
+        faces-few = omega (arith, k .faces, faces-pixels P ss paints);
       }

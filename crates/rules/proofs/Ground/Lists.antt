@@ -396,6 +396,14 @@ unfolding upto
 upto-snoc zero a = let e : a + 0 ≡ a = omega arith in rw e
 upto-snoc (suc n) a = let e : a + suc n ≡ suc a + n = omega arith in rw e (ap (λ l. a ∷ l) (upto-snoc n (suc a)))
 
+pub upto-split : (m n a : ℕ) → upto (m + n) a ≡ upto m a ++ upto n (a + m)
+unfolding upto
+upto-split zero n a = let e : a + 0 ≡ a = omega arith in let z : 0 + n ≡ n = omega arith in rw (e, z)
+upto-split (suc m) n a =
+    let e : a + suc m ≡ suc a + m = omega arith in
+    let z : suc m + n ≡ suc (m + n) = omega arith in
+    rw (e, z) (ap (λ (l : List ℕ). a ∷ l) (upto-split m n (suc a)))
+
 -- how many of the numbers below n pass
 abbrev pub count : (ℕ → Bool) → ℕ → ℕ
 count t n = length (keep t (upto n 0))

@@ -1,11 +1,12 @@
 -- Sums over lists: two lists without repetition that hold the same members have the same sum.
-use Prim.Native.Nat.{ℕ, suc, _+_, _≤_}
+use Prim.Native.Nat.{ℕ, zero, suc, _+_, _*_, _≤_}
 use mathlib.Core.Bool.{Bool, true, false, not}
 use mathlib.Core.Path.{_≡_, refl, sym, ap, ap₂, _∙_}
 use mathlib.Core.List.{List, [], _∷_, _++_, map, List·Memᴰ as In, List·Memᴰ·head as here, List·Memᴰ·tail as there, Memᴰ·cast as in-cast}
+use native.Mathlib.Nat.{mul-suc, mul-add}
 use native.Mathlib.Omega.{arith}
 use lib.ListN.{length, length-append}
-use Rattle.rules.specs.Lists.{keep, flat, Distinct}
+use Rattle.rules.specs.Lists.{keep, flat, Distinct, upto}
 use Rattle.rules.proofs.Ground.Pigeonhole.{without, in-without, Rearranged}
 
 module _ {A : Type 0} where
@@ -83,3 +84,21 @@ flat-length (l ∷ ls) = omega (arith, length-append l (flat ls), flat-length ls
 
 pub rearranged-flat : {A : Type 0} {ls ms : List (List A)} → Rearranged ls ms → length (flat ls) ≡ length (flat ms)
 rearranged-flat {ls} {ms} r = flat-length ls ∙ sum-same length r ∙ sym (flat-length ms)
+
+-- EACH BY A BOUND
+
+module _ {A : Type 0} where
+  pub sum-most : (f g : A → ℕ) (l : List A) → ((a : A) → In a l → f a ≤ g a) → sum f l ≤ sum g l
+  sum-most f g [] h = omega arith
+  sum-most f g (a ∷ l) h = omega (arith, h a (here refl), sum-most f g l (λ b i. h b (there i)))
+
+  -- c for each, and d for each of what f counts
+  pub sum-linear : (c d : ℕ) (f : A → ℕ) (l : List A) → sum (λ a. c + d * f a) l ≡ c * length l + d * sum f l
+  sum-linear c d f [] = omega arith
+  sum-linear c d f (a ∷ l) = omega (arith, sum-linear c d f l, mul-suc c (length l), mul-add d (f a) (sum f l))
+
+-- over numbers that are one larger
+pub sum-next : (f : ℕ → ℕ) (n a : ℕ) → sum f (upto n (suc a)) ≡ sum (λ i. f (suc i)) (upto n a)
+unfolding upto
+sum-next f zero a = refl
+sum-next f (suc n) a = omega (arith, sum-next f n (suc a))
