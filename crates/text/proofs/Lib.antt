@@ -4,3 +4,4 @@ pub mod Parsing
 pub mod MapFacts
 pub mod Printing
 pub mod RoundTrip
+pub mod Room
