@@ -5,3 +5,5 @@ pub mod MapFacts
 pub mod Printing
 pub mod RoundTrip
 pub mod Room
+pub mod Padding
+pub mod Answers

@@ -1,6 +1,6 @@
 -- What a text that is parsed as a map gives: sides of 16 at most, and as many labels as there are pixels.
 use Prim.Native.Nat.{ℕ, zero, suc, _*_, _≤_}
-use native.Mathlib.Nat.{zero-mul, suc-mul}
+use native.Mathlib.Nat.{zero-mul, suc-mul, mul-comm}
 use native.Mathlib.Omega.{arith}
 use mathlib.Core.Bool.{Bool, true, false}
 use mathlib.Core.Path.{_≡_, refl, sym, _∙_}
@@ -31,7 +31,7 @@ lines-count w (suc h) s t e = go (line w s .rest) refl (λ u. lines-count w h u 
 pub record IsMap (w h : ℕ) (labels : List ℕ) : Type 0 where
   pub narrow : w ≤ 16
   pub low : h ≤ 16
-  pub count : length labels ≡ h * w
+  pub count : length labels ≡ w * h
 
 module _ (w h p : ℕ) where
   whole-map : (v k o : ℕ) (r : Rest) → whole (Map v k o) r ≡ Map w h p → (r ≡ left []) × (v ≡ w) × (k ≡ h)
@@ -54,7 +54,7 @@ module _ (w h p : ℕ) where
           let f = whole-map v k o (lines v k s .rest) e in
           let m = ltb-false 16 v q in
           let n = ltb-false 16 k r in
-          record { narrow = omega arith; low = omega arith; count = lines-count v k s [] (f .0) ∙ (λ i. f .2 i * f .1 i) }
+          record { narrow = omega arith; low = omega arith; count = lines-count v k s [] (f .0) ∙ mul-comm k v ∙ (λ i. f .1 i * f .2 i) }
 
   pub parsed-map : (s : List ℕ) → parsed s .answer ≡ Map w h p → IsMap w h (parsed s .labels)
   unfolding parsed
