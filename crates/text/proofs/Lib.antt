@@ -7,3 +7,4 @@ pub mod RoundTrip
 pub mod Room
 pub mod Padding
 pub mod Answers
+pub mod Examples
