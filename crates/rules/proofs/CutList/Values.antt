@@ -47,6 +47,10 @@ module _ (b : ℕ) where
 abbrev pub Below : ℕ → ℕ → Type 0
 Below b n = (n ≡ NONE) ⊎ (n < b)
 
+pub below-more : {b c : ℕ} (n : ℕ) → b ≤ c → Below b n → Below c n
+below-more n h (inl e) = inl e
+below-more n h (inr e) = inr (omega arith)
+
 -- the number of a node
 number-below : (cs : List (ℕ × ℕ)) (i x y : ℕ) → Below (i + length cs) (nodeAt cs i x y)
 unfolding nodeAt
