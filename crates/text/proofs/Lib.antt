@@ -4,6 +4,7 @@ pub mod Parsing
 pub mod MapFacts
 pub mod Printing
 pub mod RoundTrip
+pub mod Words
 pub mod Lengths
 pub mod Room
 pub mod Padding
