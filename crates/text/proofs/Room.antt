@@ -1,9 +1,9 @@
 -- Room for every map of 16 by 16 pixels at most: no store of the sizes named here is short of what `whole` writes, and what is printed of the cut
 -- list has 53,160 bytes at most.
 use Prim.Native.Nat.{ℕ, _+_, _*_, _/_, _<_, _≤_}
-use mathlib.Core.Path.{_≡_, ap}
+use mathlib.Core.Path.{_≡_, refl, ap}
 use mathlib.Core.Logic.{_⊎_, ⊎-elim}
-use mathlib.Core.List.{List, [], _∷_}
+use mathlib.Core.List.{List}
 use native.Mathlib.Nat.{mul-le-mul, mul-assoc}
 use native.Mathlib.Omega.{arith}
 use lib.ListN.{length, getD, length-append}
@@ -12,21 +12,26 @@ use Rattle.rules.specs.Picture.{Picture, picture, OUTSIDE, Dart}
 use Rattle.rules.specs.Graph.{segments}
 use Rattle.rules.specs.Face.{Face, faces}
 use Rattle.rules.specs.Records.{contoursOf}
-use Rattle.rules.specs.Calls.{Map, pictureOf, CutList, cuts, cutList, Answer, counted, whole}
+use Rattle.rules.specs.Calls.{Map as LabelledMap, pictureOf, CutList, cuts, cutList, Answer, counted, whole}
 use Rattle.rules.proofs.Ground.Lists.{length-upto, upto-in}
 use Rattle.rules.proofs.Ground.Sums.{sum, sum-linear}
 use Rattle.rules.proofs.Lattice.Frame.{Framed, picture-framed}
 use Rattle.rules.proofs.Tracing.Partition.{describes}
 use Rattle.rules.proofs.Tracing.Counts.{step-count}
 use Rattle.rules.proofs.CutList.Counts.{Counts, counts, bounds}
-use Rattle.rules.proofs.CutList.Values.{AtMost, node-values, segment-values, label-most, point-values, reference-values, region-values, contours-most}
+use Rattle.rules.proofs.CutList.Values.{AtMost, most-more, node-values, segment-values, label-most, point-values, reference-values, region-values, contours-most}
 use Rattle.rules.proofs.CutList.Parts.{segments-fill, contours-fill, ofFace, faces-fill}
 use Rattle.mosaic.proofs.Demands.Answered.{every-whole}
 use Rattle.text.specs.Output.{pieces, mapLine, countLine, nodeLine, segLine, faceLines, report}
-use Rattle.text.specs.Program.{printed}
+use Rattle.text.specs.Parse.{parsed}
+use Rattle.text.specs.Program.{printed, answered, textmap}
+use Rattle.text.specs.declared.Parsed.{Parsed}
+use Rattle.text.specs.declared.Parsed.the-variants.{Map, TooBig, BadText}
+use Rattle.text.proofs.MapFacts.{parsed-map}
+use Rattle.text.proofs.Words.{PaintsMost, parsed-words}
 use Rattle.text.proofs.Lengths.{field-short, pieces-most, pieces-each, node-short, seg-short, contourMost, face-short}
 
-pub record Small (m : Map) : Type 0 where
+pub record Small (m : LabelledMap) : Type 0 where
   pub narrow : m .width ≤ 16
   pub low : m .height ≤ 16
   pub size : length (m .labels) ≡ m .width * m .height
@@ -41,7 +46,7 @@ pub record FewCuts (a : Answer) : Type 0 where
   pub faces : a .faces ≤ 256
   pub steps : a .steps ≤ 544
 
-pub few-cuts : (m : Map) → Small m → FewCuts (counted 0 (cutList m))
+pub few-cuts : (m : LabelledMap) → Small m → FewCuts (counted 0 (cutList m))
 unfolding cutList picture
 few-cuts m s =
     let F = picture-framed (m .width) (m .height) (m .labels) in
@@ -73,7 +78,7 @@ pub record Room (ws ns ss ps rs cs fs : List ℕ) : Type 0 where
 fits : (have need most : ℕ) → need ≤ most → most ≤ have → have < need → ⊥
 fits have need most n h s = omega arith
 
-pub enough : (m : Map) (work ns ss ps rs cs fs : List ℕ) → Small m → Room work ns ss ps rs cs fs → whole m work ns ss ps rs cs fs .answer .number ≡ 0
+pub enough : (m : LabelledMap) (work ns ss ps rs cs fs : List ℕ) → Small m → Room work ns ss ps rs cs fs → whole m work ns ss ps rs cs fs .answer .number ≡ 0
 unfolding counted
 enough m work ns ss ps rs cs fs s r =
     let l = cutList m in
@@ -89,13 +94,9 @@ enough m work ns ss ps rs cs fs s r =
     let faces = fits (length fs / 3) (length (l .faces) / 3) 256 (c .faces) (omega (arith, r .faces)) in
     every-whole m work ns ss ps rs cs fs .none .1 (side, (λ f. f (s .size), (planes, (nodes, (segments, (points, (references, (contours, (faces, tt)))))))))
 
-most-more : {b c : ℕ} (l : List ℕ) → b ≤ c → AtMost b l → AtMost c l
-most-more [] h m = tt
-most-more (v ∷ l) h m = (omega (arith, m .0), most-more l h (m .1))
-
 -- WHAT IS PRINTED
 
-module _ (m : Map) (s : Small m) (labels : AtMost OUTSIDE (m .labels)) where
+module _ (m : LabelledMap) (s : Small m) (labels : AtMost OUTSIDE (m .labels)) where
   abbrev P : Picture
   P = pictureOf m
 
@@ -206,3 +207,16 @@ module _ (m : Map) (s : Small m) (labels : AtMost OUTSIDE (m .labels)) where
         few .contours,
         few .faces,
       ))
+
+-- WHATEVER IS READ: such a map, or a message
+pub textmap-short : (text : List ℕ) → length (textmap text) ≤ 53160
+unfolding textmap answered
+textmap-short text = go (parsed text .answer) refl (parsed-words text .paints)
+  where
+    go : (r : Parsed) → parsed text .answer ≡ r → PaintsMost r → length (answered r (parsed text .labels)) ≤ 53160
+    go (Map w h p) e b =
+        let k = parsed-map w h p text e in
+        printed-short (record { width = w; height = h; paints = p; labels = parsed text .labels })
+        (record { narrow = k .narrow; low = k .low; size = k .count; word = b }) (parsed-words text .labels)
+    go TooBig e b = omega arith
+    go BadText e b = omega arith

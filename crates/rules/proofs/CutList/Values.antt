@@ -42,6 +42,10 @@ module _ (b : ℕ) where
   most-all [] f = tt
   most-all (v ∷ l) f = (f v (here refl), most-all l (λ u i. f u (there i)))
 
+pub most-more : {b c : ℕ} (l : List ℕ) → b ≤ c → AtMost b l → AtMost c l
+most-more [] h m = tt
+most-more (v ∷ l) h m = (omega (arith, m .0), most-more l h (m .1))
+
 -- BELOW b, OR NONE
 
 abbrev pub Below : ℕ → ℕ → Type 0
