@@ -1,27 +1,26 @@
 -- The words of the definitions' records stand for their segments.
 use Prim.Native.Nat.{ℕ, suc, _+_, _*_, _-_, _/_, _%_, _≤_, _<_}
 use mathlib.Core.Path.{_≡_, refl, sym, ap, ap₂, subst, _∙_}
-use mathlib.Core.Bool.{Bool, true, false, cond, not, _&&_, true≢false}
+use mathlib.Core.Bool.{Bool, true, false, cond, not, true≢false}
 use mathlib.Core.Logic.{_⊎_, inl, inr}
-use mathlib.Core.List.{List, [], _∷_, List·Memᴰ as In, List·Memᴰ·head as here, List·Memᴰ·tail as there, List·Memᴰ·not-nil as not-nil}
+use mathlib.Core.List.{List, [], _∷_, List·Memᴰ as In}
 use native.Mathlib.Omega.{arith}
 use native.Mathlib.Nat.{mul-le-mul, mul-assoc}
 use native.Mathlib.Decide.{ℕ-discrete}
 use lib.Dec.{eqb}
 use lib.ListN.{length, getD}
-use borrow.Author.Tests.{eq-eqb, ne-eqb, eqb-true}
+use borrow.Author.Tests.{eq-eqb, ne-eqb}
 use Rattle.rules.specs.Picture.{Picture, picture, Dir, N, E, S, W, code, backOf, Dart, dart, turned, left, crack, node, aheadX, aheadY}
 use Rattle.rules.specs.Graph.{nodes, corners, meets}
 use Rattle.rules.specs.Face.{steps, firstStep, lastStep, outEntry, region, isOpen, turn, successor, next}
 use Rattle.rules.specs.Records.{nodeAt, nodeRecord, pointRecords, NONE}
 use Rattle.rules.proofs.Lattice.Frame.{Framed}
-use Rattle.rules.proofs.Ground.Booleans.{and-left, and-right}
 use Rattle.rules.proofs.Lattice.Darts.{turned-turned, turned-crack, crack-to-x, crack-to-y}
 use Rattle.rules.proofs.Ground.Lists.{keep-in, in-keep, keep-few}
 use Rattle.rules.proofs.Lattice.Grid.{crack-corner, length-rows}
 use Rattle.rules.proofs.References.Steps.{forward-steps}
 use Rattle.rules.proofs.References.Ends.{Reference, reference, last-in, first-crack, last-crack, step-left, open-last, first-reversed, last-reversed, region-reversed}
-use Rattle.rules.proofs.CutList.Records.{record-of, segment-word, node-word, firstPoint, point-word}
+use Rattle.rules.proofs.CutList.Records.{firstPoint, record-of, segment-word, node-word, Numbered, numbered, unnumbered, point-word}
 use Rattle.rules.proofs.Tracing.Counts.{has-step, segment-count, crack-count}
 use Rattle.rules.specs.Describes.{Open, Ring, Describes}
 use Rattle.lattice.specs.declared.Size.{Size}
@@ -35,32 +34,6 @@ use Rattle.assemble.specs.Words.{wordIn, regionIn, openIn, headingIn, no
 use Rattle.assemble.specs.Drawn.{Drawn, Pointed, Written}
 use Rattle.assemble.proofs.FirstSteps.{first-forward, first-back}
 use Rattle.assemble.proofs.Points.{step-is, first-x, first-y, second-x, second-y, last-points}
-
--- THE NUMBER of a node
-
-abbrev Numbered : List (ℕ × ℕ) → ℕ → ℕ → ℕ → Type 0
-Numbered cs i x y = (n : ℕ) × (nodeAt cs i x y ≡ i + n) × (n < length cs) × (_≡_ {A = ℕ × ℕ} (getD cs n (0, 0)) (x, y))
-
-numbered : (cs : List (ℕ × ℕ)) (i x y : ℕ) → In (x, y) cs → Numbered cs i x y
-unfolding nodeAt
-numbered [] i x y m = absurd (not-nil m)
-numbered (c ∷ cs) i x y m = go (eqb (c .0) x && eqb (c .1) y) refl m (λ m. numbered cs (suc i) x y m)
-  where
-    go : (b : Bool) → (eqb (c .0) x && eqb (c .1) y) ≡ b → In (x, y) (c ∷ cs) → (In (x, y) cs → Numbered cs (suc i) x y)
-        → (n : ℕ) × ((elim b [ true ↦ i | false ↦ nodeAt cs (suc i) x y ]) ≡ i + n) × (n < suc (length cs)) × (_≡_ {A = ℕ × ℕ} (getD (c ∷ cs) n (0, 0)) (x, y))
-    go true e m f = (0, omega arith, omega arith, λ j. (eqb-true (c .0) x (and-left (eqb (c .0) x) (eqb (c .1) y) e) j, eqb-true (c .1) y (and-right (eqb (c .0) x) (eqb (c .1) y) e) j))
-    go false e (here q) f =
-        absurd (true≢false (sym (ap₂ (λ (p q : Bool). p && q) (eq-eqb (c .0) x (ap (λ (d : ℕ × ℕ). d .0) (sym q))) (eq-eqb (c .1) y (ap (λ (d : ℕ × ℕ). d .1) (sym q)))) ∙ e))
-    go false e (there m) f = let r = f m in (suc (r .0), let z = r .1 in omega arith, let z = r .2 in omega arith, r .3)
-
-unnumbered : (cs : List (ℕ × ℕ)) (i x y : ℕ) → (In (x, y) cs → ⊥) → nodeAt cs i x y ≡ NONE
-unfolding nodeAt
-unnumbered [] i x y n = refl
-unnumbered (c ∷ cs) i x y n = go (eqb (c .0) x && eqb (c .1) y) refl (unnumbered cs (suc i) x y (λ m. n (there m)))
-  where
-    go : (b : Bool) → (eqb (c .0) x && eqb (c .1) y) ≡ b → nodeAt cs (suc i) x y ≡ NONE → (elim b [ true ↦ i | false ↦ nodeAt cs (suc i) x y ]) ≡ NONE
-    go true e r = absurd (n (here (λ j. (sym (eqb-true (c .0) x (and-left (eqb (c .0) x) (eqb (c .1) y) e)) j, sym (eqb-true (c .1) y (and-right (eqb (c .0) x) (eqb (c .1) y) e)) j))))
-    go false e r = r
 
 back-number : (d : Dir) → (code d % 4 + 2 * 1) % 4 ≡ code (backOf d)
 back-number N = refl
@@ -203,8 +176,8 @@ module _ (s : Size) (ls : List ℕ) (m : Map s ls) (ss : List (List Dart)) (D : 
     node-at : (n k : ℕ) → n ≡ nodeAt (nodes P) 0 X Y → k < 6 → getD nodeStore (6 * n + k) 0 ≡ getD (nodeRecord ss (X, Y)) k 0
     node-at n k e q =
         let w = at-node in
-        let z : n ≡ w .0 = omega (arith, w .1) in
-        let u = w .2 in
+        let z : n ≡ w .0 = omega (arith, w .2) in
+        let u = w .1 in
         h .node-words (6 * n + k) (omega arith) ∙ node-word ss (nodes P) n k (omega arith) q ∙ ap (λ (c : ℕ × ℕ). getD (nodeRecord ss c) k 0) (ap (λ n. getD (nodes P) n (0, 0)) z ∙ w .3)
 
     module _ (n d g : ℕ) (en : n ≡ nodeAt (nodes P) 0 X Y) (ed : d ≡ code (l .d)) (eg : g ≡ region P ss r) where

@@ -10,7 +10,7 @@ use borrow.Author.Tests.{eqb-true, eq-eqb}
 use Rattle.rules.specs.Lists.{Distinct}
 use Rattle.rules.specs.Picture.{Picture, picture, node}
 use Rattle.rules.specs.Graph.{corners, nodes}
-use Rattle.rules.specs.Records.{NONE, nodeAt}
+use Rattle.rules.specs.Records.{nodeAt}
 use Rattle.rules.proofs.Ground.Lists.{keep-in, in-keep, keep-distinct}
 use Rattle.rules.proofs.Lattice.Grid.{corners-distinct, corners-in, in-rows}
 use Rattle.rules.proofs.CutList.Counts.{node-count}
@@ -30,16 +30,6 @@ at-here (c ∷ l) r i x y f = go (eqb (c .0) x) refl (eqb (c .1) y) refl (at-her
     go true p true q e = absurd (f (here (λ k. (sym (eqb-true (c .0) x p) k, sym (eqb-true (c .1) y q) k))))
     go true p false q e = e ∙ omega arith
     go false p q r e = e ∙ omega arith
-
-pub at-none : (l : List (ℕ × ℕ)) (i x y : ℕ) → (In {A = ℕ × ℕ} (x, y) l → ⊥) → nodeAt l i x y ≡ NONE
-unfolding nodeAt
-at-none [] i x y f = refl
-at-none (c ∷ l) i x y f = go (eqb (c .0) x) refl (eqb (c .1) y) refl (at-none l (suc i) x y (λ m. f (there m)))
-  where
-    go : (p : Bool) → eqb (c .0) x ≡ p → (q : Bool) → eqb (c .1) y ≡ q → nodeAt l (suc i) x y ≡ NONE → elim (p && q) [ true ↦ i | false ↦ nodeAt l (suc i) x y ] ≡ NONE
-    go true p true q e = absurd (f (here (λ k. (sym (eqb-true (c .0) x p) k, sym (eqb-true (c .1) y q) k))))
-    go true p false q e = e
-    go false p q r e = e
 
 pub nodes-distinct : (P : Picture) → Distinct (nodes P)
 unfolding nodes

@@ -3,14 +3,14 @@ use Prim.Native.Nat.{ℕ, zero, suc, _+_, _*_, _/_, _%_, _≤_, _<_}
 use mathlib.Core.Path.{_≡_, refl, sym, ap, ap₂, subst, _∙_}
 use mathlib.Core.Bool.{Bool, true, false, cond, _&&_}
 use mathlib.Core.Logic.{_⊎_, inl, inr}
-use mathlib.Core.List.{List, [], _∷_, List·Memᴰ as In, List·Memᴰ·head as here, List·Memᴰ·tail as there, List·Memᴰ·not-nil as not-nil}
+use mathlib.Core.List.{List, [], _∷_, List·Memᴰ as In}
 use native.Mathlib.Omega.{arith}
 use native.Mathlib.Decide.{ℕ-discrete}
 use lib.Dec.{eqb}
-use lib.ListN.{length, getD, set, length-set, List·getD-append}
-use lib.Seq.{sets, getD-set-same, getD-set-other, ext-getD, getD-append-add}
-use borrow.Author.Tests.{eqb-true, eqb-false, eq-eqb}
-use Rattle.rules.specs.Lists.{keep, flat, upto, Distinct}
+use lib.ListN.{length, getD, set, length-set}
+use lib.Seq.{sets, getD-set-same, getD-set-other, ext-getD}
+use borrow.Author.Tests.{eqb-true, eq-eqb}
+use Rattle.rules.specs.Lists.{keep, upto, Distinct}
 use Rattle.rules.specs.Picture.{Picture, code, Dart, dart, turned, crack, node}
 use Rattle.rules.specs.Graph.{meets, nodes}
 use Rattle.rules.specs.Face.{noDart, refs, firstStep, lastStep, isOpen, outEntry}
@@ -27,6 +27,7 @@ use Rattle.lattice.proofs.Ways.{dir-code, code-dir, code-small}
 use Rattle.graph.specs.Walk.{endOf}
 use Rattle.graph.specs.Words.{entrySlot, entered, entries}
 use Rattle.rules.proofs.CutList.Lengths.{length-nodes}
+use Rattle.rules.proofs.CutList.Records.{Numbered, numbered, node-word}
 use Rattle.store.proofs.Writes.{set-sets}
 use Rattle.graph.proofs.Numbering.{nodes-distinct, nodes-node, node-nodes}
 use Rattle.graph.proofs.Stages.{length-entered, length-entries}
@@ -37,25 +38,7 @@ Corners = List (ℕ × ℕ)
 abbrev nth : Corners → ℕ → ℕ × ℕ
 nth l k = getD l k (0, 0)
 
--- THE NUMBER OF A CORNER, and the corner of a number
-
-at-found : (l : Corners) (i x y : ℕ) → In {A = ℕ × ℕ} (x, y) l → (k : ℕ) × (k < length l) × (nodeAt l i x y ≡ i + k) × (nth l k ≡ (x, y))
-unfolding nodeAt
-at-found [] i x y m = absurd (not-nil m)
-at-found (c ∷ l) i x y m = go (eqb (c .0) x) refl (eqb (c .1) y) refl m (λ m. at-found l (suc i) x y m)
-  where
-    later : (In {A = ℕ × ℕ} (x, y) l → (k : ℕ) × (k < length l) × (nodeAt l (suc i) x y ≡ suc i + k) × (nth l k ≡ (x, y))) → In {A = ℕ × ℕ} (x, y) l
-        → (k : ℕ) × (k < suc (length l)) × (nodeAt l (suc i) x y ≡ i + k) × (nth (c ∷ l) k ≡ (x, y))
-    later f m = let r = f m in (suc (r .0), let k = r .1 in omega arith, r .2 ∙ omega arith, r .3)
-
-    go : (p : Bool) → eqb (c .0) x ≡ p → (q : Bool) → eqb (c .1) y ≡ q → In {A = ℕ × ℕ} (x, y) (c ∷ l)
-        → (In {A = ℕ × ℕ} (x, y) l → (k : ℕ) × (k < length l) × (nodeAt l (suc i) x y ≡ suc i + k) × (nth l k ≡ (x, y)))
-        → (k : ℕ) × (k < suc (length l)) × (elim (p && q) [ true ↦ i | false ↦ nodeAt l (suc i) x y ] ≡ i + k) × (nth (c ∷ l) k ≡ (x, y))
-    go true p true q m f = (0, omega arith, omega arith, λ j. (eqb-true (c .0) x p j, eqb-true (c .1) y q j))
-    go true p false q (here e) f = absurd (eqb-false (c .1) y q (sym (ap (λ (c : ℕ × ℕ). c .1) e)))
-    go true p false q (there m) f = later f m
-    go false p q r (here e) f = absurd (eqb-false (c .0) x p (sym (ap (λ (c : ℕ × ℕ). c .0) e)))
-    go false p q r (there m) f = later f m
+-- THE NUMBER of the corner with a number
 
 at-nth : (l : Corners) (i k : ℕ) → Distinct l → k < length l → nodeAt l i (nth l k .0) (nth l k .1) ≡ i + k
 unfolding nodeAt
@@ -70,16 +53,6 @@ at-nth (c ∷ l) i (suc k) d p = go (eqb (c .0) (nth l k .0)) refl (eqb (c .1) (
         absurd (d .0 (subst (λ (c : ℕ × ℕ). In c l) z (in-at l k (0, 0) (omega arith))))
     go true u false v e = e ∙ omega arith
     go false u v r e = e ∙ omega arith
-
--- THE WORDS OF A NODE
-
-record-at : (ss : List (List Dart)) (ns : Corners) (k m : ℕ) → k < length ns → m < 6 → getD (nodeWords ss ns) (6 * k + m) 0 ≡ getD (nodeRecord ss (nth ns k)) m 0
-unfolding nodeWords flat nodeRecord
-record-at ss [] k m p q = absurd (omega arith)
-record-at ss (c ∷ ns) zero m p q = let e : 6 * 0 + m ≡ m = omega arith in rw e (List·getD-append (nodeRecord ss c) (nodeWords ss ns) 0 m (omega arith))
-record-at ss (c ∷ ns) (suc k) m p q =
-    let e : 6 * suc k + m ≡ 6 + (6 * k + m) = omega arith in
-    rw e (getD-append-add (nodeRecord ss c) (nodeWords ss ns) (6 * k + m) 0 ∙ record-at ss ns k m (omega arith) q)
 
 -- WORDS THAT ARE SET to what they should be
 
@@ -189,8 +162,8 @@ module _ {P : Picture} (F : Framed P) {ss : List (List Dart)} (D : Describes P s
     is-crack : crack P b ≡ true
     is-crack = ap (crack P) (sym f) ∙ first-crack F D r k
 
-    its-place : (i : ℕ) × (i < length (nodes P)) × (nodeAt (nodes P) 0 (b .x) (b .y) ≡ 0 + i) × (nth (nodes P) i ≡ (b .x, b .y))
-    its-place = at-found (nodes P) 0 (b .x) (b .y) (node-nodes P (b .x) (b .y) (crack-x F b is-crack) (crack-y F b is-crack) n)
+    its-place : Numbered (nodes P) 0 (b .x) (b .y)
+    its-place = numbered (nodes P) 0 (b .x) (b .y) (node-nodes P (b .x) (b .y) (crack-x F b is-crack) (crack-y F b is-crack) n)
 
     -- a slot says which dart it is of
     slot-dart : (i d : ℕ) → d < 4 → entrySlot P b ≡ 6 * i + (2 + d) → b ≡ dart (nth (nodes P) i .0) (nth (nodes P) i .1) (dir d)
@@ -227,7 +200,7 @@ module _ {P : Picture} (F : Framed P) {ss : List (List Dart)} (D : Describes P s
           λ z. absurd (slot-not (2 * n) (omega arith) (getD (seg n) 0 noDart) (seg-first n) h i m q z),
           λ z. absurd (slot-not (suc (2 * n)) (omega arith) (turned (endOf (seg n))) (seg-back n k) (ends-open n k h) i m q z),
         ))
-        (record-at [] (nodes P) i m p (omega arith) ∙ sym e)
+        (node-word [] (nodes P) i m p (omega arith) ∙ sym e)
 
     -- the entry in the direction d
     module _ (d : ℕ) (q : d < 4) where
@@ -272,7 +245,7 @@ module _ {P : Picture} (F : Framed P) {ss : List (List Dart)} (D : Describes P s
           go true c = let h = hit c in entries-hits P (6 * i + (2 + d)) (outEntry ss a) (nodeWords [] (nodes P)) 0 ss (h .0) (low (2 + d) (omega arith)) agrees (h .1) (h .2)
           go false c =
               entries-keeps P (6 * i + (2 + d)) (outEntry ss a) (nodeWords [] (nodes P)) 0 ss (low (2 + d) (omega arith)) agrees
-              (record-at [] (nodes P) i (2 + d) p (omega arith) ∙ e ∙ sym (out-entry-none F D a c))
+              (node-word [] (nodes P) i (2 + d) p (omega arith) ∙ e ∙ sym (out-entry-none F D a c))
 
     word : (m : ℕ) → m < 6 → getD (entries P (nodeWords [] (nodes P)) 0 ss) (6 * i + m) 0 ≡ getD (nodeRecord ss at) m 0
     unfolding nodeRecord outEntry refs upto keep
@@ -295,7 +268,7 @@ module _ {P : Picture} (F : Framed P) {ss : List (List Dart)} (D : Describes P s
           let z : j ≡ 6 * (j / 6) + j % 6 = omega arith in
           let k : j / 6 < length (nodes P) = omega (arith, length-entries P (nodeWords [] (nodes P)) 0 ss, length-nodes [] (nodes P)) in
           let m : j % 6 < 6 = omega arith in
-          rw z (word (j / 6) k (j % 6) m ∙ sym (record-at ss (nodes P) (j / 6) (j % 6) k m))
+          rw z (word (j / 6) k (j % 6) m ∙ sym (node-word ss (nodes P) (j / 6) (j % 6) k m))
 
   -- in a store that may be too short for them
   slot-low : (r : ℕ) → r < 2 * length ss → (b : Dart) → firstStep ss r ≡ b → node P (b .x) (b .y) ≡ true → entrySlot P b < 6 * length (nodes P)

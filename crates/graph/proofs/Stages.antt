@@ -17,6 +17,7 @@ use Rattle.rules.proofs.Ground.Lists.{flat-append, flat-snoc, in-last, last-at}
 use Rattle.rules.proofs.Tracing.Partition.{describes}
 use Rattle.rules.proofs.Tracing.Walks.{the-walk, walk-crack}
 use Rattle.rules.proofs.Tracing.Counts.{step-count, segment-count, crack-count}
+use Rattle.rules.proofs.CutList.Records.{unnumbered}
 use Rattle.rules.specs.Describes.{Open, Ring, Segment}
 use Rattle.store.specs.Words.{Kept}
 use Rattle.lattice.specs.declared.Size.{Size}
@@ -38,7 +39,7 @@ use Rattle.graph.specs.Words.{idAt, Linked, entrySlot, entered, entries}
 use Rattle.graph.proofs.Growing.{length-marks}
 use Rattle.graph.proofs.Slots.{marked-all, unmarked, on-append}
 use Rattle.graph.proofs.Along.{steps-inside}
-use Rattle.graph.proofs.Numbering.{at-none, nodes-node}
+use Rattle.graph.proofs.Numbering.{nodes-node}
 
 -- TRACING ONLY ADDS
 
@@ -152,7 +153,7 @@ module _ (s : Size) (ls : List ℕ) (w : Walker) (h : Starts s ls w) where
       rw end-is (g .1)
 
   no-number : (x y : ℕ) → node P x y ≡ false → nodeAt (nodes P) 0 x y ≡ NONE
-  no-number x y e = at-none (nodes P) 0 x y (λ i. true≢false (sym (nodes-node P x y i) ∙ e))
+  no-number x y e = unnumbered (nodes P) 0 x y (λ i. true≢false (sym (nodes-node P x y i) ∙ e))
 
   -- the marks and the numbers
   module _ (work work′ : List ℕ) (f : work′ ≡ markAll (s .width) (s .height) work (stepsOf s ls w)) (p : 2 * plane (s .width) (s .height) ≤ length work) where

@@ -1,16 +1,18 @@
 -- Where each word of a cut list stands: the words of one record, and the points of one segment.
 use Prim.Native.Nat.{ℕ, zero, suc, pred, _+_, _*_, _<_}
-use mathlib.Core.Path.{_≡_, refl, _∙_}
-use mathlib.Core.Bool.{cond}
-use mathlib.Core.List.{List, [], _∷_, List·Memᴰ as In, List·Memᴰ·head as here, List·Memᴰ·tail as there}
+use mathlib.Core.Path.{_≡_, refl, sym, ap, _∙_}
+use mathlib.Core.Bool.{Bool, true, false, cond, _&&_}
+use mathlib.Core.List.{List, [], _∷_, List·Memᴰ as In, List·Memᴰ·head as here, List·Memᴰ·tail as there, List·Memᴰ·not-nil as not-nil}
 use native.Mathlib.Omega.{arith}
+use lib.Dec.{eqb}
 use lib.ListN.{length, getD, length-append, List·getD-append}
 use lib.Seq.{getD-append-add}
+use borrow.Author.Tests.{eqb-true, eqb-false}
 use Rattle.rules.specs.Lists.{flat}
 use Rattle.rules.specs.Picture.{Picture, code, Dart, left, right, node, aheadX, aheadY}
 use Rattle.rules.specs.Graph.{nodes}
 use Rattle.rules.specs.Face.{noDart}
-use Rattle.rules.specs.Records.{nodeAt, nodeRecord, nodeWords, segmentWords, pointRecords, pointWords}
+use Rattle.rules.specs.Records.{NONE, nodeAt, nodeRecord, nodeWords, segmentWords, pointRecords, pointWords}
 use Rattle.rules.proofs.CutList.Lengths.{length-records}
 
 -- SEGMENTS
@@ -33,34 +35,54 @@ pub segment-word : (P : Picture) (ss : List (List Dart)) (p i k f : ℕ) → f �
     → getD (segmentWords P p ss) (8 * i + k) 0 ≡ getD (record-of P f (getD ss i [])) k 0
 unfolding segmentWords record-of firstPoint
 segment-word P [] p i k f e h m = absurd (omega arith)
-segment-word P (s ∷ ss) p zero zero f e h m = omega arith
-segment-word P (s ∷ ss) p zero (suc zero) f e h m = refl
-segment-word P (s ∷ ss) p zero (suc (suc zero)) f e h m = refl
-segment-word P (s ∷ ss) p zero (suc (suc (suc zero))) f e h m = refl
-segment-word P (s ∷ ss) p zero (suc (suc (suc (suc zero)))) f e h m = refl
-segment-word P (s ∷ ss) p zero (suc (suc (suc (suc (suc zero))))) f e h m = refl
-segment-word P (s ∷ ss) p zero (suc (suc (suc (suc (suc (suc zero)))))) f e h m = refl
-segment-word P (s ∷ ss) p zero (suc (suc (suc (suc (suc (suc (suc zero))))))) f e h m = refl
-segment-word P (s ∷ ss) p zero (suc (suc (suc (suc (suc (suc (suc (suc k)))))))) f e h m = absurd (omega arith)
+segment-word P (s ∷ ss) p zero k f e h m =
+    let z : 8 * 0 + k ≡ k = omega arith in
+    let q : p ≡ f = omega arith in
+    rw z (List·getD-append (record-of P p s) (segmentWords P (p + suc (length s)) ss) 0 k m ∙ ap (λ (f : ℕ). getD (record-of P f s) k 0) q)
 segment-word P (s ∷ ss) p (suc i) k f e h m =
-    let z : 8 * suc i + k ≡ suc (suc (suc (suc (suc (suc (suc (suc (8 * i + k)))))))) = omega arith in
-    rw z (segment-word P ss (p + suc (length s)) i k f (omega arith) (omega arith) m)
+    let z : 8 * suc i + k ≡ 8 + (8 * i + k) = omega arith in
+    rw z (getD-append-add (record-of P p s) (segmentWords P (p + suc (length s)) ss) (8 * i + k) 0 ∙ segment-word P ss (p + suc (length s)) i k f (omega arith) (omega arith) m)
 
 -- NODES
 
 pub node-word : (ss : List (List Dart)) (ns : List (ℕ × ℕ)) (n k : ℕ) → n < length ns → k < 6 → getD (nodeWords ss ns) (6 * n + k) 0 ≡ getD (nodeRecord ss (getD ns n (0, 0))) k 0
 unfolding nodeWords nodeRecord flat
 node-word ss [] n k h m = absurd (omega arith)
-node-word ss (c ∷ ns) zero zero h m = refl
-node-word ss (c ∷ ns) zero (suc zero) h m = refl
-node-word ss (c ∷ ns) zero (suc (suc zero)) h m = refl
-node-word ss (c ∷ ns) zero (suc (suc (suc zero))) h m = refl
-node-word ss (c ∷ ns) zero (suc (suc (suc (suc zero)))) h m = refl
-node-word ss (c ∷ ns) zero (suc (suc (suc (suc (suc zero))))) h m = refl
-node-word ss (c ∷ ns) zero (suc (suc (suc (suc (suc (suc k)))))) h m = absurd (omega arith)
+node-word ss (c ∷ ns) zero k h m = let e : 6 * 0 + k ≡ k = omega arith in rw e (List·getD-append (nodeRecord ss c) (nodeWords ss ns) 0 k m)
 node-word ss (c ∷ ns) (suc n) k h m =
-    let e : 6 * suc n + k ≡ suc (suc (suc (suc (suc (suc (6 * n + k)))))) = omega arith in
-    rw e (node-word ss ns n k (omega arith) m)
+    let e : 6 * suc n + k ≡ 6 + (6 * n + k) = omega arith in
+    rw e (getD-append-add (nodeRecord ss c) (nodeWords ss ns) (6 * n + k) 0 ∙ node-word ss ns n k (omega arith) m)
+
+-- the number of a corner that is among the nodes, counted from i, and of one that is not
+abbrev pub Numbered : List (ℕ × ℕ) → ℕ → ℕ → ℕ → Type 0
+Numbered cs i x y = (n : ℕ) × (n < length cs) × (nodeAt cs i x y ≡ i + n) × (_≡_ {A = ℕ × ℕ} (getD cs n (0, 0)) (x, y))
+
+pub numbered : (cs : List (ℕ × ℕ)) (i x y : ℕ) → In {A = ℕ × ℕ} (x, y) cs → Numbered cs i x y
+unfolding nodeAt
+numbered [] i x y m = absurd (not-nil m)
+numbered (c ∷ cs) i x y m = go (eqb (c .0) x) refl (eqb (c .1) y) refl m (λ m. numbered cs (suc i) x y m)
+  where
+    later : (In {A = ℕ × ℕ} (x, y) cs → Numbered cs (suc i) x y) → In {A = ℕ × ℕ} (x, y) cs
+        → (n : ℕ) × (n < suc (length cs)) × (nodeAt cs (suc i) x y ≡ i + n) × (_≡_ {A = ℕ × ℕ} (getD (c ∷ cs) n (0, 0)) (x, y))
+    later f m = let r = f m in (suc (r .0), let k = r .1 in omega arith, r .2 ∙ omega arith, r .3)
+
+    go : (p : Bool) → eqb (c .0) x ≡ p → (q : Bool) → eqb (c .1) y ≡ q → In {A = ℕ × ℕ} (x, y) (c ∷ cs) → (In {A = ℕ × ℕ} (x, y) cs → Numbered cs (suc i) x y)
+        → (n : ℕ) × (n < suc (length cs)) × (elim (p && q) [ true ↦ i | false ↦ nodeAt cs (suc i) x y ] ≡ i + n) × (_≡_ {A = ℕ × ℕ} (getD (c ∷ cs) n (0, 0)) (x, y))
+    go true p true q m f = (0, omega arith, omega arith, λ j. (eqb-true (c .0) x p j, eqb-true (c .1) y q j))
+    go true p false q (here e) f = absurd (eqb-false (c .1) y q (sym (ap (λ (c : ℕ × ℕ). c .1) e)))
+    go true p false q (there m) f = later f m
+    go false p q r (here e) f = absurd (eqb-false (c .0) x p (sym (ap (λ (c : ℕ × ℕ). c .0) e)))
+    go false p q r (there m) f = later f m
+
+pub unnumbered : (cs : List (ℕ × ℕ)) (i x y : ℕ) → (In {A = ℕ × ℕ} (x, y) cs → ⊥) → nodeAt cs i x y ≡ NONE
+unfolding nodeAt
+unnumbered [] i x y f = refl
+unnumbered (c ∷ cs) i x y f = go (eqb (c .0) x) refl (eqb (c .1) y) refl (unnumbered cs (suc i) x y (λ m. f (there m)))
+  where
+    go : (p : Bool) → eqb (c .0) x ≡ p → (q : Bool) → eqb (c .1) y ≡ q → nodeAt cs (suc i) x y ≡ NONE → elim (p && q) [ true ↦ i | false ↦ nodeAt cs (suc i) x y ] ≡ NONE
+    go true p true q e = absurd (f (here (λ k. (sym (eqb-true (c .0) x p) k, sym (eqb-true (c .1) y q) k))))
+    go true p false q e = e
+    go false p q r e = e
 
 -- POINTS
 
