@@ -1,4 +1,4 @@
--- `reader::corner_at` meets its contract: each answer rewrites with the tests that led there. Assumes nothing.
+-- `reader::corner_at` meets its contract: each answer rewrites with the tests that led there.
 use borrow.Author.Needs.{needs}
 use denote.Ref.{now}
 use mathlib.Core.Path.{sym}

@@ -1,6 +1,5 @@
 -- `reader::new` meets its contract: a walk of its MIR, by hand. A `Reader` is made of the store passed, the three numbers and 0, in the result's local.
 -- A `&[u32]` is Copy, so what it owns is had twice: once for points at exit, and once inside the result, beside the facts of the other fields.
--- Assumes nothing.
 use mathlib.Core.Path.{refl}
 use Prim.Native.Nat.{ℕ}
 use mathlib.Core.Bool.{Bool}

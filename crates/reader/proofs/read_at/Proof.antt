@@ -1,6 +1,5 @@
 -- `reader::read_at` meets its contract: a walk of its MIR, by hand. A `Reader` that `new` returns is held in a local and passed to `moved`, and what that returns to `next`.
 -- All that the proof knows of the three is that each meets its contract. In a local of a body MIR erases the lifetime of the struct's type.
--- Assumes nothing.
 use mathlib.Core.Path.{_≡_, refl, ap, _∙_}
 use Prim.Native.Nat.{ℕ}
 use mathlib.Core.Bool.{Bool}

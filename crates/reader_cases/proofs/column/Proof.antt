@@ -1,3 +1,4 @@
+-- `reader_cases::column` meets its contract.
 use borrow.Author.Needs.{needs}
 use Rattle.reader_cases.proofs.column.Statement.{statement}
 use Rattle.reader_cases.proofs.column.Tie as tie

@@ -1,3 +1,4 @@
+-- `reader_cases::six_calls` meets its contract.
 use Prim.Native.Nat.{_-_}
 use borrow.Author.Needs.{needs}
 use Rattle.reader_cases.proofs.six_calls.Statement.{statement}
