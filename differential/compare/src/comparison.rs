@@ -155,11 +155,11 @@ impl Comparison {
         let mut count = 0;
         every::every_arrangement(|pixels, patches| {
             count += 1;
-            self.judge(&arranged(pixels, patches, patches), depth, what);
+            self.judge(&every::arranged(pixels, patches, patches), depth, what);
             if outside {
                 count += patches;
                 for out in 0..patches {
-                    self.judge(&arranged(pixels, patches, out), depth, what);
+                    self.judge(&every::arranged(pixels, patches, out), depth, what);
                 }
                 self.judge(&rimmed(pixels, patches), depth, what);
             }
@@ -244,14 +244,6 @@ fn small_sizes(pixels: u32) -> Vec<(u32, u32)> {
     sizes.retain(|(w, h)| w * h <= pixels);
     sizes.sort_by_key(|(w, h)| w * h);
     sizes
-}
-
-/// Nine pixels by the number of their patch; one patch may be OUTSIDE.
-fn arranged(pixels: &[u32; 9], patches: u32, outside: u32) -> Map {
-    Map::new(3, 3, patches, |x, y| match pixels[(y * 3 + x) as usize] {
-        patch if patch == outside => OUTSIDE,
-        patch => patch,
-    })
 }
 
 /// The same inside a rim of one more label.

@@ -1,5 +1,7 @@
 //! Maps by enumeration: every map of a size over some labels, and every arrangement of nine pixels.
 
+use oracle::OUTSIDE;
+
 use crate::map::Map;
 
 /// Hands out every map of this size over these labels.
@@ -38,6 +40,14 @@ pub fn every_arrangement(mut take: impl FnMut(&[u32; 9], u32)) {
         }
     }
     extend(0, 0, &mut [0; 9], &mut take);
+}
+
+/// Nine pixels by the number of their patch; one patch may be OUTSIDE.
+pub fn arranged(pixels: &[u32; 9], patches: u32, outside: u32) -> Map {
+    Map::new(3, 3, patches, |x, y| match pixels[(y * 3 + x) as usize] {
+        patch if patch == outside => OUTSIDE,
+        patch => patch,
+    })
 }
 
 #[cfg(test)]

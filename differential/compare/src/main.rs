@@ -1,5 +1,7 @@
 //! Compares the port with the unchanged Rust, word for word: `compare smallest|quick|full REPOSITORY COMMAND`, where COMMAND runs serve.c.
+//! `compare answers REPOSITORY` writes the answers that the program `replay` runs.
 
+mod answers;
 mod comparison;
 mod definitions;
 mod every;
@@ -20,13 +22,19 @@ use comparison::{FULL, QUICK, SMALLEST};
 fn main() -> Result<ExitCode, Box<dyn Error>> {
     let words: Vec<String> = std::env::args().skip(1).collect();
     let [form, root, command @ ..] = words.as_slice() else {
-        return Err("compare smallest|quick|full REPOSITORY COMMAND".into());
+        return Err("compare smallest|quick|full|answers REPOSITORY COMMAND".into());
     };
+    let root = Path::new(root);
+    if form == "answers" {
+        let maps = answers::write(&root.join("crates/replay/stdin"))?;
+        println!("crates/replay/stdin has the Rust's answers to {maps} maps");
+        return Ok(ExitCode::SUCCESS);
+    }
     let extent = match form.as_str() {
         "smallest" => SMALLEST,
         "quick" => QUICK,
         "full" => FULL,
         _ => return Err("smallest, quick or full?".into()),
     };
-    comparison::run(&extent, Path::new(root), command)
+    comparison::run(&extent, root, command)
 }
