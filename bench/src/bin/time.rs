@@ -122,6 +122,7 @@ fn longest(map: &Map, rounds: usize) {
         return;
     }
     let mut lent = Lent::work_only(map);
+    lent.fill(); // so that every page is there
     let [mut t_fill, mut t_size, mut t_whole] = ["fill", "size", "whole"].map(Timer::new);
     let mut more = 0;
     for _ in 0..rounds {
