@@ -12,6 +12,7 @@ use Rattle.mosaic.specs.declared.Answer.{Answer}
 use Rattle.mosaic.specs.Outcome.{mapWith, answerOf, outcome}
 use Rattle.mosaic.proofs.Demands.Answered.{every-whole}
 use Rattle.text.specs.Bytes.{bytes}
+use Rattle.text.specs.Grammar.{readHeader}
 use Rattle.text.specs.Parse.{parsed}
 use Rattle.text.specs.Places.{ParsedIs}
 use Rattle.text.specs.Output.{report}
@@ -61,7 +62,7 @@ module _ (text : List ℕ) {store store′ : List ℕ} {r : Parsed} (k : ParsedI
 
   -- A MAP, its labels at the front of a store of 256 words
   module _ {w h p : ℕ} (long : length store ≡ 256) (e : r ≡ Map w h p) where
-    pub small : IsMap w h (parsed text .labels)
+    pub small : IsMap w h p (readHeader text) (parsed text .labels)
     small = parsed-map w h p text (sym (k .answer) ∙ e)
 
     area : w * h ≤ 256

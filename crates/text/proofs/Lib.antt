@@ -3,10 +3,13 @@ pub mod Entries
 pub mod Parsing
 pub mod MapFacts
 pub mod Printing
-pub mod RoundTrip
+pub mod Decimals
 pub mod Words
 pub mod Lengths
+pub mod RoundTrip
+pub mod OneText
 pub mod Room
 pub mod Padding
 pub mod Answers
+pub mod Arrays
 pub mod Examples

@@ -17,7 +17,7 @@ abbrev badText : Outcome
 badText = record { answer = BadText; labels = [] }
 
 module _ (s : List ℕ) where
-  long : 4096 < length s → parsed s ≡ tooBig
+  pub long : 4096 < length s → parsed s ≡ tooBig
   unfolding parsed
   long h = rw (lt-ltb 4096 (length s) h, parsed)
 
@@ -39,7 +39,7 @@ module _ (s : List ℕ) where
       unfolding small
       tall k m = fits ∙ (ap small e ∙ rw (le-ltb 16 w k, small) (rw (lt-ltb 16 h m, small)))
 
-      inner : w ≤ 16 → h ≤ 16 → parsed s ≡ body w h p t
+      pub inner : w ≤ 16 → h ≤ 16 → parsed s ≡ body w h p t
       unfolding small
       inner k m = fits ∙ (ap small e ∙ rw (le-ltb 16 w k, small) (rw (le-ltb 16 h m, small)))
 

@@ -1,120 +1,172 @@
--- What is printed of a number is read back as that number, and nothing else is read as it.
-use Prim.Native.Nat.{ℕ, zero, suc, _+_, _*_, _-_, _/_, _%_, _≤_, _<_}
-use native.Mathlib.Omega.{arith}
-use native.Mathlib.Decide.{decLe, ℕ-discrete}
-use mathlib.Core.Bool.{Bool, true, false}
-use mathlib.Core.Path.{_≡_, refl, ap, sym, _∙_}
+-- The text of a map is read back as that map.
+use Prim.Native.Nat.{ℕ, zero, suc, _+_, _*_, _≤_, _<_}
+use mathlib.Core.Path.{_≡_, refl, ap, sym, subst, _∙_}
 use mathlib.Core.List.{List, [], _∷_, _++_, append-nil, append-assoc}
-use borrow.Author.Tests.{ne-eqb, leb-true}
-use lib.Dec.{leb}
-use Rattle.text.specs.Grammar.{Number, number, unreadable, digits, decimal}
-use Rattle.text.specs.Output.{shownIn, shown}
-use Rattle.text.proofs.Printing.{shown-small, shown-big}
-use Rattle.text.proofs.Scanning.{digits-one, decimal-low, decimal-high, decimal-one}
+use native.Mathlib.Omega.{arith}
+use native.Mathlib.Nat.{suc-mul, mul-le-mul, mul-comm}
+use native.Mathlib.Decide.{ℕ-discrete}
+use borrow.Author.Tests.{le-leb, eq-eqb, ne-eqb}
+use lib.ListN.{length, take, drop, length-append, length-take, length-drop, take-append-drop}
+use Rattle.rules.specs.Picture.{OUTSIDE}
+use Rattle.rules.specs.Calls.{Map as LabelledMap}
+use Rattle.rules.proofs.CutList.Values.{AtMost}
+use Rattle.text.specs.Bytes.{bytes}
+use Rattle.text.specs.Grammar.{SPACE, NEWLINE, Number, number, decimal, atMost, word, longer, upTo, got, before, reading, readNumber, readLabel, left, Lines, more, entries, line, after, lines, header, readHeader}
+use Rattle.text.specs.Parse.{whole, body, parsed}
+use Rattle.text.specs.Output.{shown}
+use Rattle.text.specs.Written.{entryOf, lineOf, linesOf, textOf}
+use Rattle.text.specs.declared.Parsed.the-variants.{Map}
+use Rattle.text.proofs.Scanning.{upTo-stop, upTo-other, label-dot, label-number}
+use Rattle.text.proofs.Entries.{header-good, entry-got, last-got, lines-more}
+use Rattle.text.proofs.Parsing.{inner}
+use Rattle.text.proofs.Decimals.{High, Form, form, reads-back}
+use Rattle.text.proofs.Lengths.{shown-short}
+use Rattle.text.proofs.Room.{Small}
 
--- a number that is shown with more digits before what is read
-digits-shown : (acc : ℕ) (w : List ℕ) (n : ℕ) → 0 < acc → digits acc w ≡ number n → shown n ≡ shown acc ++ w
-unfolding digits
-digits-shown acc [] n h e = let k : n ≡ acc = cc in rw k (sym (append-nil (shown acc)))
-digits-shown acc (b ∷ w) n h e = go (leb 48 b) refl (leb b 57) refl (λ k. digits-shown (10 * acc + (b - 48)) w n k) e
+-- A NUMBER
+
+upTo-high : (stop : ℕ) (w t : List ℕ) → stop < 48 → High w → upTo stop (w ++ (stop ∷ t)) ≡ word w t
+unfolding longer
+upTo-high stop [] t s h = upTo-stop stop stop t refl
+upTo-high stop (b ∷ w) t s h = let k = h .0 in upTo-other stop b (w ++ (stop ∷ t)) (λ e. omega arith) ∙ ap (longer b) (upTo-high stop w t s (h .1))
+
+number-back : (most stop n : ℕ) (t : List ℕ) → stop < 48 → n ≤ most → readNumber most stop (shown n ++ (stop ∷ t)) ≡ got n t
+unfolding readNumber reading before atMost
+number-back most stop n t s h =
+    let small : atMost most (number n) ≡ number n = rw (le-leb n most h, atMost) in
+    ap (reading (λ w. atMost most (decimal w))) (upTo-high stop (shown n) t s (form n .high))
+    ∙ ap (λ (x : Number). before x t) (ap (atMost most) (reads-back n) ∙ small)
+
+-- AN ENTRY
+
+pub entry-outside : (l : ℕ) → l ≡ OUTSIDE → entryOf l ≡ bytes "."
+unfolding entryOf
+entry-outside l e = rw (eq-eqb l OUTSIDE e, entryOf)
+
+pub entry-shown : (l : ℕ) → (l ≡ OUTSIDE → ⊥) → entryOf l ≡ shown l
+unfolding entryOf
+entry-shown l n = rw (ne-eqb l OUTSIDE n, entryOf)
+
+entry-back : (stop l : ℕ) (t : List ℕ) → stop < 46 → l ≤ OUTSIDE → readLabel stop (entryOf l ++ (stop ∷ t)) ≡ got l t
+entry-back stop l t s h =
+    elim (ℕ-discrete l OUTSIDE) [
+      | yes e ↦ ap (λ (w : List ℕ). readLabel stop (w ++ (stop ∷ t))) (entry-outside l e) ∙ label-dot stop s stop t refl ∙ ap (λ (v : ℕ). got v t) (sym e)
+      | no n ↦ ap (λ (w : List ℕ). readLabel stop (w ++ (stop ∷ t))) (entry-shown l n) ∙ go n (form l)
+    ]
   where
-    step : 48 ≤ b → b ≤ 57 → shown (10 * acc + (b - 48)) ≡ shown acc ++ (b ∷ [])
-    step l u =
-        let q : (10 * acc + (b - 48)) / 10 ≡ acc = omega arith in
-        let r : 48 + (10 * acc + (b - 48)) % 10 ≡ b = omega arith in
-        shown-big (10 * acc + (b - 48)) (omega arith) ∙ (λ i. shown (q i) ++ (r i ∷ []))
+    go : (l ≡ OUTSIDE → ⊥) → Form l → readLabel stop (shown l ++ (stop ∷ t)) ≡ got l t
+    go n f =
+        let k = subst High (f .is) (f .high) .0 in
+        ap (λ (w : List ℕ). readLabel stop (w ++ (stop ∷ t))) (f .is) ∙ label-number stop s (f .first) (f .rest ++ (stop ∷ t)) (λ e. omega arith)
+        ∙ ap (λ (w : List ℕ). readNumber 4294967294 stop (w ++ (stop ∷ t))) (sym (f .is)) ∙ number-back 4294967294 stop l t (omega arith) (omega (arith, n))
 
-    go : (p : Bool) → leb 48 b ≡ p → (q : Bool) → leb b 57 ≡ q → (0 < 10 * acc + (b - 48) → digits (10 * acc + (b - 48)) w ≡ number n → shown n ≡ shown (10 * acc + (b - 48)) ++ w)
-        → (elim p as (λ _. Number) [ false ↦ unreadable | true ↦ elim q as (λ _. Number) [ false ↦ unreadable | true ↦ digits (10 * acc + (b - 48)) w ] ]) ≡ number n → shown n ≡ shown acc ++ (b ∷ w)
-    go false ep q eq ih e = let z : _≡_ {A = ℕ} 0 1 = cc in absurd (omega arith)
-    go true ep false eq ih e = let z : _≡_ {A = ℕ} 0 1 = cc in absurd (omega arith)
-    go true ep true eq ih e = ih (omega arith) e ∙ (ap (λ (l : List ℕ). l ++ w) (step (leb-true 48 b ep) (leb-true b 57 eq)) ∙ append-assoc (shown acc) (b ∷ []) w)
+-- LINES, whatever follows
 
-zero-only : (w : List ℕ) (n : ℕ) → decimal (48 ∷ w) ≡ number n → 48 ∷ w ≡ shown n
-unfolding decimal digits shown shownIn
-zero-only [] n e = let z : n ≡ 0 = cc in rw z refl
-zero-only (c ∷ w) n e = let z : _≡_ {A = ℕ} 0 1 = cc in absurd (omega arith)
+abbrev Back : Lines → List ℕ → List ℕ → Type 0
+Back x ls t = x ≡ record { labels = ls; rest = left t }
 
--- nothing else is read as n
-pub only-shown : (w : List ℕ) (n : ℕ) → decimal w ≡ number n → w ≡ shown n
-unfolding decimal
-only-shown [] n e = let z : _≡_ {A = ℕ} 0 1 = cc in absurd (omega arith)
-only-shown (b ∷ w) n e = low (decLe 48 b)
-  where
-    high : 48 < b → Dec (b ≤ 57) → b ∷ w ≡ shown n
-    high h (yes k) =
-        let c : 48 + (b - 48) ≡ b = omega arith in
-        sym (digits-shown (b - 48) w n (omega arith) (sym (decimal-one b w h k) ∙ e) ∙ (ap (λ (l : List ℕ). l ++ w) (shown-small (b - 48) (omega arith)) ∙ ap (λ (x : ℕ). x ∷ w) c))
-    high h (no k) = let f = decimal-high b w (omega arith) in let z : _≡_ {A = ℕ} 0 1 = cc in absurd (omega arith)
+entries-back : (n : ℕ) (l : ℕ) (ls t : List ℕ) → length ls ≡ n → AtMost OUTSIDE (l ∷ ls) → Back (entries n (lineOf (l ∷ ls) ++ t)) (l ∷ ls) t
+unfolding lineOf
+entries-back zero l [] t e f =
+    ap (entries 0) (append-assoc (entryOf l) (NEWLINE ∷ []) t) ∙ last-got (entryOf l ++ (NEWLINE ∷ t)) l t (entry-back NEWLINE l t (omega arith) (f .0))
+entries-back zero l (m ∷ ls) t e f = absurd (omega arith)
+entries-back (suc n) l [] t e f = absurd (omega arith)
+entries-back (suc n) l (m ∷ ls) t e f =
+    ap (entries (suc n)) (append-assoc (entryOf l) (SPACE ∷ lineOf (m ∷ ls)) t)
+    ∙ entry-got n (entryOf l ++ (SPACE ∷ (lineOf (m ∷ ls) ++ t))) l (lineOf (m ∷ ls) ++ t) (entry-back SPACE l (lineOf (m ∷ ls) ++ t) (omega arith) (f .0))
+    ∙ ap (more l) (entries-back n m ls t (omega arith) (f .1))
 
-    first : 48 ≤ b → Dec (b ≡ 48) → b ∷ w ≡ shown n
-    first h (yes z) = ap (λ (x : ℕ). x ∷ w) z ∙ zero-only w n (ap (λ (x : ℕ). decimal (x ∷ w)) (sym z) ∙ e)
-    first h (no z) = high (omega arith) (decLe b 57)
+line-back : (w : ℕ) (ls t : List ℕ) → length ls ≡ w → AtMost OUTSIDE ls → Back (line w (lineOf ls ++ t)) ls t
+unfolding line lineOf
+line-back zero [] t e f = refl
+line-back zero (l ∷ ls) t e f = absurd (omega arith)
+line-back (suc w) [] t e f = absurd (omega arith)
+line-back (suc w) (l ∷ ls) t e f = entries-back w l ls t (omega arith) f
 
-    low : Dec (48 ≤ b) → b ∷ w ≡ shown n
-    low (yes h) = first h (ℕ-discrete b 48)
-    low (no h) = let f = decimal-low b w (omega arith) in let z : _≡_ {A = ℕ} 0 1 = cc in absurd (omega arith)
+most-take : (n : ℕ) (l : List ℕ) → AtMost OUTSIDE l → AtMost OUTSIDE (take n l) × AtMost OUTSIDE (drop n l)
+most-take zero l f = (tt, f)
+most-take (suc n) [] f = (tt, tt)
+most-take (suc n) (v ∷ l) f = let r = most-take n l (f .1) in ((f .0, r .0), r .1)
 
--- digits that are read, and one more
-digits-then : (acc b : ℕ) (w : List ℕ) (n : ℕ) → 48 ≤ b → b ≤ 57 → digits acc w ≡ number n → digits acc (w ++ (b ∷ [])) ≡ number (10 * n + (b - 48))
-unfolding digits
-digits-then acc b [] n h k e = let m : acc ≡ n = cc in rw (← m) (digits-one acc b [] h k)
-digits-then acc b (x ∷ w) n h k e = go (leb 48 x) (leb x 57) (digits-then (10 * acc + (x - 48)) b w n h k) e
-  where
-    go : (p q : Bool) → (digits (10 * acc + (x - 48)) w ≡ number n → digits (10 * acc + (x - 48)) (w ++ (b ∷ [])) ≡ number (10 * n + (b - 48)))
-        → (elim p as (λ _. Number) [ false ↦ unreadable | true ↦ elim q as (λ _. Number) [ false ↦ unreadable | true ↦ digits (10 * acc + (x - 48)) w ] ]) ≡ number n
-        → (elim p as (λ _. Number) [ false ↦ unreadable | true ↦ elim q as (λ _. Number) [ false ↦ unreadable | true ↦ digits (10 * acc + (x - 48)) (w ++ (b ∷ [])) ] ]) ≡ number (10 * n + (b - 48))
-    go false q ih e = let z : _≡_ {A = ℕ} 0 1 = cc in absurd (omega arith)
-    go true false ih e = let z : _≡_ {A = ℕ} 0 1 = cc in absurd (omega arith)
-    go true true ih e = ih e
+lines-back : (w h : ℕ) (ls t : List ℕ) → length ls ≡ h * w → AtMost OUTSIDE ls → Back (lines w h (linesOf w h ls ++ t)) ls t
+unfolding lines linesOf after
+lines-back w zero [] t e f = refl
+lines-back w zero (l ∷ ls) t e f = absurd (omega arith)
+lines-back w (suc h) ls t e f =
+    let parts = suc-mul h w in
+    let halves = most-take w ls f in
+    let front : length (take w ls) ≡ w = omega (arith, length-take w ls) in
+    let rest = linesOf w h (drop w ls) ++ t in
+    let one = line-back w (take w ls) rest front (halves .0) in
+    ap (lines w (suc h)) (append-assoc (lineOf (take w ls)) (linesOf w h (drop w ls)) t)
+    ∙ lines-more w h (lineOf (take w ls) ++ rest) rest (ap (λ (x : Lines). x .rest) one)
+    ∙ (λ i. after (one i .labels) (lines-back w h (drop w ls) t (omega (arith, length-drop w ls)) (halves .1) i))
+    ∙ (λ i. record { labels = take-append-drop w ls i; rest = left t })
 
--- what is shown is all digits, and starts with no 0 unless it is 0
-pub record Form (n : ℕ) : Type 0 where
-  pub first : ℕ
-  pub rest : List ℕ
-  pub is : shown n ≡ first ∷ rest
-  pub nonzero : 0 < n → 48 < first
-  pub read : digits 0 (shown n) ≡ number n
+-- NO TEXT OF A MAP IS TOO LONG
 
-form-small : (n : ℕ) → n < 10 → Form n
-unfolding digits
-form-small n h =
-    record {
-      first = 48 + n;
-      rest = [];
-      is = shown-small n h;
-      nonzero = λ k. omega arith;
-      read = rw (shown-small n h) (digits-one 0 (48 + n) [] (omega arith) (omega arith) ∙ ap number (omega arith));
-    }
+word-short : (n : ℕ) → n ≤ OUTSIDE → length (shown n) ≤ 10
+word-short n h = shown-short 9 n (omega arith)
 
-form-big : (n : ℕ) → 10 ≤ n → Form (n / 10) → Form n
-form-big n h p =
-    record {
-      first = p .first;
-      rest = p .rest ++ ((48 + n % 10) ∷ []);
-      is = shown-big n h ∙ ap (λ (l : List ℕ). l ++ ((48 + n % 10) ∷ [])) (p .is);
-      nonzero = λ k. p .nonzero (omega arith);
-      read = rw (shown-big n h) (digits-then 0 (48 + n % 10) (shown (n / 10)) (n / 10) (omega arith) (omega arith) (p .read) ∙ ap number (omega arith));
-    }
+entry-short : (l : ℕ) → l ≤ OUTSIDE → length (entryOf l) ≤ 10
+entry-short l h =
+    elim (ℕ-discrete l OUTSIDE) [
+      | yes e ↦ omega (arith, ap length (entry-outside l e))
+      | no n ↦ omega (arith, ap length (entry-shown l n), word-short l h)
+    ]
 
-form-in : (f n : ℕ) → n ≤ f → Form n
-form-in zero n h = form-small n (omega arith)
-form-in (suc f) n h = go (decLe 10 n) (form-in f (n / 10))
-  where
-    go : Dec (10 ≤ n) → (n / 10 ≤ f → Form (n / 10)) → Form n
-    go (yes k) ih = form-big n k (ih (omega arith))
-    go (no k) ih = form-small n (omega arith)
+line-short : (ls : List ℕ) → AtMost OUTSIDE ls → length (lineOf ls) ≤ 11 * length ls + 1
+unfolding lineOf
+line-short [] f = omega arith
+line-short (l ∷ []) f = omega (arith, entry-short l (f .0), length-append (entryOf l) (NEWLINE ∷ []))
+line-short (l ∷ m ∷ ls) f = omega (arith, entry-short l (f .0), line-short (m ∷ ls) (f .1), length-append (entryOf l) (SPACE ∷ lineOf (m ∷ ls)))
 
-decimal-first : (b : ℕ) (w : List ℕ) → 48 < b → decimal (b ∷ w) ≡ digits 0 (b ∷ w)
-unfolding decimal
-decimal-first b [] h = refl
-decimal-first b (c ∷ w) h = rw (ne-eqb b 48 (λ e. omega arith), decimal)
+lines-short : (w h : ℕ) (ls : List ℕ) → AtMost OUTSIDE ls → length (linesOf w h ls) ≤ 11 * length ls + h
+unfolding linesOf
+lines-short w zero ls f = omega arith
+lines-short w (suc h) ls f =
+    let halves = most-take w ls f in
+    let all = ap length (take-append-drop w ls) in
+    omega (arith, all, length-append (take w ls) (drop w ls), length-append (lineOf (take w ls)) (linesOf w h (drop w ls)), line-short (take w ls) (halves .0), lines-short w h (drop w ls) (halves .1))
 
--- what is printed is read back
-pub reads-back : (n : ℕ) → decimal (shown n) ≡ number n
-unfolding decimal digits shown shownIn
-reads-back n = go (decLe 1 n) (form-in n n (omega arith))
-  where
-    go : Dec (1 ≤ n) → Form n → decimal (shown n) ≡ number n
-    go (yes h) p = ap decimal (p .is) ∙ (decimal-first (p .first) (p .rest) (p .nonzero h) ∙ (ap (digits 0) (sym (p .is)) ∙ p .read))
-    go (no h) p = let z : n ≡ 0 = omega arith in rw z refl
+-- THE MAP
+
+module _ (m : LabelledMap) (s : Small m) (f : AtMost OUTSIDE (m .labels)) where
+  abbrev w : ℕ
+  w = m .width
+
+  abbrev h : ℕ
+  h = m .height
+
+  abbrev p : ℕ
+  p = m .paints
+
+  abbrev ls : List ℕ
+  ls = m .labels
+
+  text-short : length (textOf m) ≤ 4096
+  unfolding textOf
+  text-short =
+      let area = mul-le-mul (s .narrow) (s .low) in
+      let body = linesOf w h ls in
+      let four = length-append (shown p) (NEWLINE ∷ body) in
+      let three = length-append (shown h) (SPACE ∷ (shown p ++ (NEWLINE ∷ body))) in
+      let two = length-append (shown w) (SPACE ∷ (shown h ++ (SPACE ∷ (shown p ++ (NEWLINE ∷ body))))) in
+      omega (arith, area, four, three, two, s .size, s .narrow, s .low, lines-short w h ls f, word-short w (omega (arith, s .narrow)), word-short h (omega (arith, s .low)), word-short p (s .word))
+
+  header-back : readHeader (textOf m) ≡ header w h p (linesOf w h ls)
+  unfolding textOf
+  header-back =
+      let body = linesOf w h ls in
+      let after-h = shown p ++ (NEWLINE ∷ body) in
+      let after-w = shown h ++ (SPACE ∷ after-h) in
+      header-good (shown w ++ (SPACE ∷ after-w)) w after-w (number-back 4294967295 SPACE w after-w (omega arith) (omega (arith, s .narrow)))
+      h after-h (number-back 4294967295 SPACE h after-h (omega arith) (omega (arith, s .low)))
+      p body (number-back 4294967295 NEWLINE p body (omega arith) (s .word))
+
+  pub read-back : parsed (textOf m) ≡ record { answer = Map w h p; labels = ls }
+  unfolding body whole
+  read-back =
+      let all : Back (lines w h (linesOf w h ls)) ls [] = ap (lines w h) (sym (append-nil (linesOf w h ls))) ∙ lines-back w h ls [] (s .size ∙ mul-comm w h) f in
+      inner (textOf m) text-short w h p (linesOf w h ls) header-back (s .narrow) (s .low)
+      ∙ (λ i. record { answer = whole (Map w h p) (all i .rest); labels = all i .labels })

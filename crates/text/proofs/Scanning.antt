@@ -47,11 +47,11 @@ digits-big most acc (b ∷ w) h = go (leb 48 b) (leb b 57) (digits-big most (10 
     go true true e = e
 
 module _ (stop : ℕ) where
-  upTo-stop : (b : ℕ) (s : List ℕ) → b ≡ stop → upTo stop (b ∷ s) ≡ word [] s
+  pub upTo-stop : (b : ℕ) (s : List ℕ) → b ≡ stop → upTo stop (b ∷ s) ≡ word [] s
   unfolding upTo
   upTo-stop b s e = rw (eq-eqb b stop e, upTo)
 
-  upTo-other : (b : ℕ) (s : List ℕ) → (b ≡ stop → ⊥) → upTo stop (b ∷ s) ≡ longer b (upTo stop s)
+  pub upTo-other : (b : ℕ) (s : List ℕ) → (b ≡ stop → ⊥) → upTo stop (b ∷ s) ≡ longer b (upTo stop s)
   unfolding upTo
   upTo-other b s e = rw (ne-eqb b stop e, upTo)
 

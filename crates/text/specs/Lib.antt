@@ -3,4 +3,5 @@ pub mod Grammar
 pub mod Parse
 pub mod Places
 pub mod Output
+pub mod Written
 pub mod Program

@@ -6,7 +6,7 @@ use libc::STDOUT_FILENO;
 const MOST: usize = 4097;
 
 // The cut list of a map of 16 by 16 pixels never takes more.
-const ROOM: usize = 131072;
+const ROOM: usize = 65536;
 
 fn main() {
     let mut input = [0u8; MOST];

@@ -4,7 +4,7 @@ ghost use Prim.Native.Nat.{_<_};
 
 // What is printed for a text.
 fn shows(name: &[u8], input: &[u8]) {
-    let mut out = [0u8; 131072];
+    let mut out = [0u8; 65536];
     let n = text::textmap(input, &mut out);
     io::write_all(STDOUT_FILENO, name);
     io::write_all(STDOUT_FILENO, b"\n");
@@ -13,7 +13,7 @@ fn shows(name: &[u8], input: &[u8]) {
 
 // How many bytes are printed for a text.
 fn weighs(name: &[u8], input: &[u8; 2833]) {
-    let mut out = [0u8; 131072];
+    let mut out = [0u8; 65536];
     let n = text::textmap(input, &mut out);
     io::write_all(STDOUT_FILENO, name);
     io::write_all(STDOUT_FILENO, b"\n");
