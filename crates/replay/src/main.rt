@@ -18,7 +18,7 @@ struct Tally {
     differences: u64,
 }
 
-// DATA
+// DATA (sums of places wrap, so that no proof has to follow them: the data ends long before they could)
 
 fn wide(b: u8) -> u32
     ensures { λ r. ⌜ r ≤ 255 ⌝ }
