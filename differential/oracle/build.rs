@@ -28,7 +28,9 @@ fn main() -> Result<(), Box<dyn Error>> {
 
     // A path attribute takes no macro, hence this file of one line; mod.rs inside `tree` makes `mod` items find their files.
     let path = tree.join("mod.rs");
-    let root = format!("#[allow(dead_code, unused_imports)]\n#[path = {path:?}]\nmod vtracer;\n");
+    let root = format!(
+        "#[allow(dead_code, unused_imports, clippy::all)]\n#[path = {path:?}]\nmod vtracer;\n"
+    );
     fs::write(out.join("root.rs"), root)?;
     Ok(())
 }

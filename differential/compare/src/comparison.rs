@@ -203,8 +203,9 @@ impl Comparison {
 
     fn shapes(&mut self, side: u32) {
         let depth = match side {
-            ..=100 => Depth::All,
-            ..=300 => Depth::Some,
+            0..=100 => Depth::All,
+            101..=300 => Depth::Some,
+            301..=1024 => Depth::Each,
             _ => Depth::One,
         };
         for name in shapes::NAMES {

@@ -110,20 +110,23 @@ fn work_words(width: u32, height: u32) -> usize {
 }
 
 /// How much is asked for one map.
-#[derive(Clone, Copy, Debug, PartialEq, Eq)]
+#[derive(Clone, Copy, Debug, PartialEq, Eq, PartialOrd)]
 pub enum Depth {
-    /// Every kind of call.
-    All,
-    /// For large maps: each call with exact stores, `whole` with larger ones and with each store a word short, and the bad maps.
-    Some,
     /// For maps of millions of pixels: `whole` with larger stores.
     One,
+    /// Also `size` and `graph` with exact stores, and the bad maps.
+    Each,
+    /// Also `whole` with exact stores, and with each store a word short.
+    Some,
+    /// Every kind of call.
+    All,
 }
 
 /// The calls asked for a map with this cut list.
 pub fn setups(map: &Map, list: &CutList, depth: Depth) -> Vec<Setup> {
     let mut out = Vec::new();
     for call in [Call::Size, Call::Graph, Call::Whole] {
+        let whole = call == Call::Whole;
         let exact = Setup {
             call,
             width: map.width,
@@ -133,17 +136,18 @@ pub fn setups(map: &Map, list: &CutList, depth: Depth) -> Vec<Setup> {
             work: work_words(map.width.min(SIDE), map.height.min(SIDE)),
             stores: list.stores().map(<[u32]>::len),
         };
-        if depth == Depth::All || call == Call::Whole {
+        if whole || depth == Depth::All {
             out.push(larger(&exact));
         }
-        if depth == Depth::One {
-            continue;
-        }
-        if depth == Depth::All || call == Call::Whole {
+        if depth == Depth::All || (whole && depth == Depth::Some) {
             short_stores(&mut out, &exact, depth);
         }
-        bad_maps(&mut out, &exact);
-        out.push(exact);
+        if depth >= Depth::Each {
+            bad_maps(&mut out, &exact);
+        }
+        if depth >= Depth::Some || (depth == Depth::Each && !whole) {
+            out.push(exact);
+        }
     }
     out
 }
@@ -164,7 +168,7 @@ fn larger(exact: &Setup) -> Setup {
 
 /// Each store a word short, and a record short with every store after it empty.
 fn short_stores(out: &mut Vec<Setup>, exact: &Setup, depth: Depth) {
-    for k in 0..exact.call.stores() {
+    for (k, record) in RECORD.iter().enumerate().take(exact.call.stores()) {
         if exact.stores[k] == 0 {
             continue;
         }
@@ -172,7 +176,7 @@ fn short_stores(out: &mut Vec<Setup>, exact: &Setup, depth: Depth) {
         setup.stores[k] = exact.stores[k] - 1;
         out.push(setup.clone());
         if depth == Depth::All {
-            setup.stores[k] = exact.stores[k] - RECORD[k];
+            setup.stores[k] = exact.stores[k] - record;
             setup.stores[k + 1..].fill(0);
             out.push(setup);
         }

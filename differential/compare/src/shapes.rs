@@ -62,7 +62,7 @@ fn spiral(side: u32, x: u32, y: u32) -> u32 {
     let edge = x.min(y).min(side - 1 - x).min(side - 1 - y);
     // The path goes round at even distances from the edge; below each north-west corner it leaves one pixel out, and enters the next rim.
     let passage = x == edge && y == edge + 1;
-    if (edge % 2 == 0) != passage {
+    if edge.is_multiple_of(2) != passage {
         0
     } else {
         OUTSIDE
