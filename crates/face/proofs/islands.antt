@@ -1,4 +1,5 @@
--- Islands: one pixel marked, the neighbours of a pixel, the scan of all.
-pub mod Marking
+-- Islands: trees that grow, the neighbours before a pixel, all pixels linked, and their roots' numbers.
+pub mod Trees
 pub mod Neighbours
-pub mod Scanning
+pub mod Linking
+pub mod Settling

@@ -1,188 +1,201 @@
-// Islands of equal labels: the number of each pixel is the first pixel of its island.
+// Islands of equal labels: the number of each pixel is the first pixel of its island. Row by row each pixel is joined with the equal
+// neighbours before it, as a tree whose root is its least pixel; then each takes over its root's number.
 use lattice::OUTSIDE;
 use lattice::Size;
 ghost use mathlib.Core.Path.{_≡_};
-ghost use Prim.Native.Nat.{ℕ, _+_, _*_, _<_, _≤_};
-ghost use lib.ListN.{length};
+ghost use mathlib.Core.Bool.{_&&_};
+ghost use Prim.Native.Nat.{suc, _*_, _%_, _<_, _≤_};
+ghost use lib.Dec.{ltb, eqb};
+ghost use lib.ListN.{length, getD};
+ghost use Rattle.rules.specs.Picture.{one};
 ghost use Rattle.lattice.specs.Size.{Map};
 ghost use Rattle.lattice.specs.Planes.{plane};
-ghost use Rattle.face.specs.Islands.{noIsland, Spot, marked, Held, Near, Over, Seen, LeftOf, RightOf, InRow, Above, Below, Flood, Spread, Scanned, Begun, Sizes, number, area, Numbered, plan};
+ghost use Rattle.face.specs.Islands.{area, Sizes, Leaf, Rooted, Met, Before, Over, LeftOf, RightOf, Above, Hand, Linked, Links, NextColumn, Unsettled, Settles, Numbered, plan};
 
 const NO_ISLAND: u32 = 4294967295;
 
-// The sides of the map, and where the numbers and the stack stand in the work store.
+// The sides of the map, and where the numbers stand in the work store.
 struct Plan {
     width: usize,
     height: usize,
     ids: usize,
-    stack: usize,
 }
 
-// The pixel in hand, its column, and the number of its island.
-struct Hand {
-    first: u32,
-    p: usize,
-    x: usize,
-}
-
-// The pixel `at` gets the number `first`, and goes onto the stack.
-fn mark(work: &mut [u32], m: Plan, first: u32, at: usize, top: usize)
-    requires { ⌜ Spot m at top (now work) ⌝ }
-    ensures { λ _. ⌜ now (work .exit) ≡ marked m first at top (now (work .entry)) ⌝ }
+// The root of the tree that q is in, among the pixels up to p. The way there is halved.
+fn root(labels: &[u32], work: &mut [u32], m: Plan, p: usize, q: usize) -> usize
+    requires { ⌜ Leaf m (suc p) (now labels) (now work) q ⌝ }
+    ensures { λ r. ⌜ Rooted m (suc p) (now (labels .entry)) q (now (work .entry)) r (now (work .exit)) ⌝ }
 {
-    work[m.ids + at] = first;
-    work[m.stack + top] = at as u32;
-}
-
-// The pixel `at`, next to that in hand: marked and pushed, if it has the same label and no number yet.
-fn visit(labels: &[u32], work: &mut [u32], m: Plan, hand: Hand, at: usize, top: usize) -> usize
-    requires held { ⌜ Held m hand top (now labels) (now work) ⌝ }
-    requires near { ⌜ Near m (hand .p) at ⌝ }
-    ensures { λ r. ⌜ Seen m hand top (now (labels .entry)) (now (work .entry)) r (now (work .exit)) (λ q. q ≡ at) ⌝ }
-{
-    if store::at(labels, at) != store::at(labels, hand.p) {
-        return top;
-    }
-    if store::at(work, m.ids + at) != NO_ISLAND {
-        return top;
-    }
-    mark(work, m, hand.first, at, top);
-    top + 1
-}
-
-// The pixel left of `at`, which stands in the column of that in hand.
-fn left(labels: &[u32], work: &mut [u32], m: Plan, hand: Hand, at: usize, top: usize) -> usize
-    requires held { ⌜ Held m hand top (now labels) (now work) ⌝ }
-    requires over { ⌜ Over m hand at ⌝ }
-    ensures { λ r. ⌜ Seen m hand top (now (labels .entry)) (now (work .entry)) r (now (work .exit)) (LeftOf m at) ⌝ }
-{
-    if hand.x == 0 {
-        return top;
-    }
-    visit(labels, work, m, hand, at - 1, top)
-}
-
-// The pixel right of it.
-fn right(labels: &[u32], work: &mut [u32], m: Plan, hand: Hand, at: usize, top: usize) -> usize
-    requires held { ⌜ Held m hand top (now labels) (now work) ⌝ }
-    requires over { ⌜ Over m hand at ⌝ }
-    ensures { λ r. ⌜ Seen m hand top (now (labels .entry)) (now (work .entry)) r (now (work .exit)) (RightOf m at) ⌝ }
-{
-    if m.width <= hand.x + 1 {
-        return top;
-    }
-    visit(labels, work, m, hand, at + 1, top)
-}
-
-// Three in a row, `at` in the middle.
-fn row(labels: &[u32], work: &mut [u32], m: Plan, hand: Hand, at: usize, top: usize) -> usize
-    requires held { ⌜ Held m hand top (now labels) (now work) ⌝ }
-    requires over { ⌜ Over m hand at ⌝ }
-    ensures { λ r. ⌜ Seen m hand top (now (labels .entry)) (now (work .entry)) r (now (work .exit)) (InRow m at) ⌝ }
-{
-    let one = visit(labels, work, m, hand, at, top);
-    let two = left(labels, work, m, hand, at, one);
-    right(labels, work, m, hand, at, two)
-}
-
-// The row above.
-fn above(labels: &[u32], work: &mut [u32], m: Plan, hand: Hand, top: usize) -> usize
-    requires { ⌜ Held m hand top (now labels) (now work) ⌝ }
-    ensures { λ r. ⌜ Seen m hand top (now (labels .entry)) (now (work .entry)) r (now (work .exit)) (Above m (hand .p)) ⌝ }
-{
-    if hand.p < m.width {
-        return top;
-    }
-    row(labels, work, m, hand, hand.p - m.width, top)
-}
-
-// The row below.
-fn below(labels: &[u32], work: &mut [u32], m: Plan, hand: Hand, top: usize) -> usize
-    requires { ⌜ Held m hand top (now labels) (now work) ⌝ }
-    ensures { λ r. ⌜ Seen m hand top (now (labels .entry)) (now (work .entry)) r (now (work .exit)) (Below m (hand .p)) ⌝ }
-{
-    let at = hand.p + m.width;
-    if labels.len() <= at {
-        return top;
-    }
-    row(labels, work, m, hand, at, top)
-}
-
-// The neighbours of the pixel in hand. Its own row comes last, so that the flood goes on along the row.
-fn spread(labels: &[u32], work: &mut [u32], m: Plan, hand: Hand, top: usize) -> usize
-    requires { ⌜ Held m hand top (now labels) (now work) ⌝ }
-    ensures { λ r. ⌜ Spread m (hand .first) top (now (labels .entry)) (now (work .entry)) r (now (work .exit)) ⌝ }
-{
-    let one = above(labels, work, m, hand, top);
-    let two = below(labels, work, m, hand, one);
-    let three = left(labels, work, m, hand, hand.p, two);
-    right(labels, work, m, hand, hand.p, three)
-}
-
-// From the one pixel on the stack to all that are joined to it.
-fn flood(labels: &[u32], work: &mut [u32], m: Plan, first: u32)
-    requires { ⌜ Flood m first (area m) 1 (now labels) (now work) ⌝ }
-    ensures { λ _. ⌜ Spread m first 1 (now (labels .entry)) (now (work .entry)) 0 (now (work .exit)) ⌝ }
-{
-    let mut top: usize = 1;
-    while 0 < top {
-        let last = top - 1;
-        let p = store::at(work, m.stack + last) as usize;
-        let x = p % m.width;
-        top = spread(labels, work, m, Hand { first, p, x }, last);
+    let mut r = q;
+    loop {
+        let up = store::at(work, m.ids + r);
+        if up as usize == r {
+            return r;
+        }
+        let over = store::at(work, m.ids + (up as usize));
+        work[m.ids + r] = over;
+        r = over as usize;
     }
 }
 
-// One pixel of the scan: where it has no number yet, its island gets its number. 1 for a painted island that is new.
-fn begin(labels: &[u32], work: &mut [u32], m: Plan, paints: u32, i: usize) -> u32
-    requires scanned { ⌜ Scanned m i (now labels) (now work) ⌝ }
-    requires within { ⌜ i < area m ⌝ }
-    ensures { λ r. ⌜ Begun m paints i (now (labels .entry)) (now (work .entry)) r (now (work .exit)) ⌝ }
+// p and q, which have one label, into one tree.
+fn join(labels: &[u32], work: &mut [u32], m: Plan, p: usize, q: usize)
+    requires leaf { ⌜ Leaf m (suc p) (now labels) (now work) p ⌝ }
+    requires before { ⌜ Before m p q ⌝ }
+    requires same { ⌜ getD (now labels) q 0 ≡ getD (now labels) p 0 ⌝ }
+    ensures { λ _. ⌜ Met m p (now (labels .entry)) (now (work .entry)) (now (work .exit)) (λ r. r ≡ q) ⌝ }
 {
-    let label = store::at(labels, i);
-    if label == OUTSIDE {
-        return 0;
+    let a = root(labels, work, m, p, p);
+    let b = root(labels, work, m, p, q);
+    if a < b {
+        work[m.ids + b] = a as u32;
+    } else {
+        work[m.ids + a] = b as u32;
     }
-    if store::at(work, m.ids + i) != NO_ISLAND {
-        return 0;
+}
+
+// The same if they have.
+fn meet(labels: &[u32], work: &mut [u32], m: Plan, p: usize, q: usize)
+    requires leaf { ⌜ Leaf m (suc p) (now labels) (now work) p ⌝ }
+    requires before { ⌜ Before m p q ⌝ }
+    ensures { λ _. ⌜ Met m p (now (labels .entry)) (now (work .entry)) (now (work .exit)) (λ r. r ≡ q) ⌝ }
+{
+    if store::at(labels, q) == store::at(labels, p) {
+        join(labels, work, m, p, q);
     }
-    let first = i as u32;
-    mark(work, m, first, i, 0);
-    flood(labels, work, m, first);
+}
+
+// p with the pixel left of `at`, which stands in its column.
+fn meet_left(labels: &[u32], work: &mut [u32], m: Plan, x: usize, p: usize, at: usize)
+    requires leaf { ⌜ Leaf m (suc p) (now labels) (now work) p ⌝ }
+    requires over { ⌜ Over m x p at ⌝ }
+    ensures { λ _. ⌜ Met m p (now (labels .entry)) (now (work .entry)) (now (work .exit)) (LeftOf m at) ⌝ }
+{
+    if 0 < x {
+        meet(labels, work, m, p, at - 1);
+    }
+}
+
+// p with the pixel right of `at`, which stands in its column, in the row above.
+fn meet_right(labels: &[u32], work: &mut [u32], m: Plan, x: usize, p: usize, at: usize)
+    requires leaf { ⌜ Leaf m (suc p) (now labels) (now work) p ⌝ }
+    requires over { ⌜ Over m x p at ⌝ }
+    requires above { ⌜ Above m p at ⌝ }
+    ensures { λ _. ⌜ Met m p (now (labels .entry)) (now (work .entry)) (now (work .exit)) (RightOf m at) ⌝ }
+{
+    if x + 1 < m.width {
+        meet(labels, work, m, p, at + 1);
+    }
+}
+
+// p with its equal neighbours in the row above. Where the one right above is equal, those beside it are in its tree already.
+fn meet_above(labels: &[u32], work: &mut [u32], m: Plan, x: usize, p: usize)
+    requires { ⌜ Hand m x p (now labels) (now work) ⌝ }
+    ensures { λ _. ⌜ Met m p (now (labels .entry)) (now (work .entry)) (now (work .exit)) (Above m p) ⌝ }
+{
+    if p < m.width {
+        return;
+    }
+    let north = p - m.width;
+    if store::at(labels, north) == store::at(labels, p) {
+        join(labels, work, m, p, north);
+        return;
+    }
+    meet_left(labels, work, m, x, p, north);
+    meet_right(labels, work, m, x, p, north);
+}
+
+// The pixel p, in the column x: a tree by itself, and then one with its equal neighbours before it.
+fn link(labels: &[u32], work: &mut [u32], m: Plan, x: usize, p: usize)
+    requires linked { ⌜ Linked m p (now labels) (now work) ⌝ }
+    requires within { ⌜ p < area m ⌝ }
+    requires column { ⌜ x ≡ p % m .width ⌝ }
+    ensures { λ _. ⌜ Links m p (now (labels .entry)) (now (work .entry)) (suc p) (now (work .exit)) ⌝ }
+{
+    if store::at(labels, p) == OUTSIDE {
+        work[m.ids + p] = NO_ISLAND;
+        return;
+    }
+    work[m.ids + p] = p as u32;
+    meet_left(labels, work, m, x, p, p);
+    meet_above(labels, work, m, x, p);
+}
+
+// The column after x.
+fn next_column(width: usize, x: usize) -> usize
+    requires { ⌜ x < width ⌝ }
+    ensures { λ r. ⌜ NextColumn width x r ⌝ }
+{
+    let r = x + 1;
+    if r == width { 0 } else { r }
+}
+
+// All pixels, row by row.
+fn link_all(labels: &[u32], work: &mut [u32], m: Plan)
+    requires { ⌜ Sizes m (now labels) (now work) ⌝ }
+    ensures { λ _. ⌜ Links m 0 (now (labels .entry)) (now (work .entry)) (area m) (now (work .exit)) ⌝ }
+{
+    let mut x: usize = 0;
+    let mut p: usize = 0;
+    while p < labels.len() {
+        link(labels, work, m, x, p);
+        x = next_column(m.width, x);
+        p += 1;
+    }
+}
+
+// 1 for the root of a painted island.
+fn opening(label: u32, paints: u32, up: u32, q: usize) -> u32
+    ensures { λ r. ⌜ r ≡ one (ltb label paints && eqb up q) ⌝ }
+{
     if label < paints {
-        return 1;
+        if up as usize == q {
+            return 1;
+        }
     }
     0
 }
 
-// Numbers all islands, and counts the painted ones.
-fn scan(labels: &[u32], work: &mut [u32], m: Plan, paints: u32) -> u32
-    requires sizes { ⌜ Sizes m (now labels) (now work) ⌝ }
-    requires empty { ⌜ ((q : ℕ) → q < area m → number m (now work) q ≡ noIsland) ⌝ }
+// The pixel q, where those before it have their roots' numbers, takes over the number of the one that it names.
+fn settle(labels: &[u32], work: &mut [u32], m: Plan, paints: u32, q: usize) -> u32
+    requires { ⌜ Unsettled m q (now labels) (now work) ⌝ }
+    ensures { λ r. ⌜ Settles m paints q (now (labels .entry)) (now (work .entry)) r (now (work .exit)) ⌝ }
+{
+    let label = store::at(labels, q);
+    if label == OUTSIDE {
+        return 0;
+    }
+    let up = store::at(work, m.ids + q);
+    let first = store::at(work, m.ids + (up as usize));
+    work[m.ids + q] = first;
+    opening(label, paints, up, q)
+}
+
+// All pixels; how many islands are painted.
+fn settle_all(labels: &[u32], work: &mut [u32], m: Plan, paints: u32) -> u32
+    requires linked { ⌜ Linked m (area m) (now labels) (now work) ⌝ }
+    requires word { ⌜ paints ≤ 4294967295 ⌝ }
     ensures { λ r. ⌜ Numbered m paints (now (labels .entry)) (now (work .entry)) r (now (work .exit)) ⌝ }
 {
     let mut count: u32 = 0;
-    let mut i: usize = 0;
-    while i < labels.len() {
-        count += begin(labels, work, m, paints, i);
-        i += 1;
+    let mut q: usize = 0;
+    while q < labels.len() {
+        count += settle(labels, work, m, paints, q);
+        q += 1;
     }
     count
 }
 
-// The islands of a map, numbered in plane 5 of the work store, with the stack in plane 6: how many are painted.
+// The islands of a map, numbered in plane 5 of the work store: how many are painted.
 pub fn islands(s: Size, labels: &[u32], work: &mut [u32]) -> u32
-    requires { ⌜ Map s (now labels) ⌝ ∗ ⌜ 7 * plane (s .width) (s .height) ≤ length (now work) ⌝ }
+    requires { ⌜ Map s (now labels) ⌝ ∗ ⌜ 6 * plane (s .width) (s .height) ≤ length (now work) ⌝ }
     ensures { λ r. ⌜ Numbered (plan s) (s .paints) (now (labels .entry)) (now (work .entry)) r (now (work .exit)) ⌝ }
 {
-    let plane = lattice::plane(s);
-    let ids = 5 * plane;
     let m = Plan {
         width: s.width as usize,
         height: s.height as usize,
-        ids,
-        stack: 6 * plane,
+        ids: 5 * lattice::plane(s),
     };
-    store::fill(work, ids, labels.len(), NO_ISLAND);
-    scan(labels, work, m, s.paints)
+    link_all(labels, work, m);
+    settle_all(labels, work, m, s.paints)
 }

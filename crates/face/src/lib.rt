@@ -16,7 +16,7 @@ pub struct Counts {
     pub faces: u32,
 }
 
-// How many references, contours and faces a map has. The numbers of the islands stay in plane 5 of the work store; planes 6 and 7 are used.
+// How many references, contours and faces a map has. The numbers of the islands stay in plane 5 of the work store; plane 7 is used.
 pub fn count(s: Size, labels: &[u32], work: &mut [u32]) -> Counts
     requires { ⌜ Map s (now labels) ⌝ ∗ ⌜ 8 * plane (s .width) (s .height) ≤ length (now work) ⌝ }
     ensures { λ r. ⌜ Counted s (now (labels .entry)) (now (work .entry)) r (now (work .exit)) ⌝ }

@@ -1,313 +1,212 @@
--- The neighbours of a pixel in hand: one, three in a row, all eight.
-use mathlib.Core.Path.{_≡_, refl, sym, _∙_, ap}
+-- The neighbours before a pixel: which there are, and that those with its label come into its tree.
+use mathlib.Core.Path.{_≡_, refl, sym, _∙_, ap, subst}
 use mathlib.Core.List.{List}
-use mathlib.Core.Logic.{_⊎_, inl, inr, ⊎-elim}
-use Prim.Native.Nat.{ℕ, suc, _+_, _-_, _/_, _%_, _≤_, _<_}
-use native.Mathlib.Nat.{add-mod-right, div-eq-of-lt}
+use mathlib.Core.Logic.{_⊎_, inl, inr}
+use Prim.Native.Nat.{ℕ, suc, _+_, _*_, _-_, _/_, _%_, _≤_, _<_}
 use native.Mathlib.Omega.{arith}
 use native.Mathlib.Decide.{ℕ-discrete, decLt}
-use lib.ListN.{length, getD}
+use native.Mathlib.Nat.{div-eq-of-lt, add-mod-right, div-add-mod', suc-mul, mod-le}
+use lib.ListN.{getD, set}
 use Rattle.rules.specs.Picture.{picture}
-use Rattle.rules.proofs.Lattice.Frame.{picture-framed}
 use Rattle.rules.proofs.Islands.Joined.{Step, here, step}
-use Rattle.rules.proofs.Islands.Firsts.{firsts-same}
-use Rattle.rules.proofs.Islands.Pixels.{labelOf-is, width-pos, width-in, column-in, row-in, left-column, left-row, right-column, right-row, right-in, below-in, below-row, same-pixel}
+use Rattle.rules.proofs.Islands.Pixels.{labelOf-is, column-in, left-column, left-row, right-column, right-row, below-row, same-pixel}
 use Rattle.face.specs.declared.islands.Plan.{Plan}
-use Rattle.face.specs.declared.islands.Hand.{Hand}
-use Rattle.face.specs.Islands.{noIsland, area, view, number, Marked, marked, On, Right, Done, Flood, Held, Near, Over, LeftOf, RightOf, InRow, Above, Below, Grew, Seen, Spread}
-use Rattle.face.proofs.islands.Marking.{grew-none, grew-then, grew-popped, grew-marked, Fresh, mark-kept, mark-new, mark-flood, mark-grew}
+use Rattle.face.specs.Islands.{area, view, Tied, Grown, Leaf, Rooted, Met, Before, Over, LeftOf, RightOf, Above, Hand}
+use Rattle.face.proofs.islands.Trees.{tied-to, tied-grown, grown-none, grown-then, below-first, below-second}
 
--- ONE PIXEL
+-- PLACES
 
-module _ {m : Plan} {g : Hand} {top : ℕ} {ls work : List ℕ} (t : Held m g top ls work) where
-  hand-marked : Marked m work (g .p)
-  hand-marked e = omega (arith, t .number, t .flood .sound, t .flood .sizes)
+-- the end of one row comes before the next row
+pub row-before : (w h q p : ℕ) → q < w * h → suc (q / w) ≡ p / w → q < p
+row-before w h q p b e = omega (arith, div-add-mod' q w, div-add-mod' p w, suc-mul (q / w) w, ap (λ (i : ℕ). i * w) e, column-in w h q b)
 
-  hand-right : Right m ls work (g .p)
-  hand-right = t .flood .marks (g .p) (t .within) hand-marked
+-- in one row the columns decide
+pub column-before : (w q p : ℕ) → q / w ≡ p / w → q < p → q % w < p % w
+column-before w q p e l = omega (arith, div-add-mod' q w, div-add-mod' p w, ap (λ (i : ℕ). i * w) e)
 
-  -- nothing to do
-  pub idle : {S : ℕ → Type 0} → ((q : ℕ) → S q → Step (view m ls) (g .p) q → Marked m work q) → Seen m g top ls work top work S
-  idle k = record { held = t; grew = grew-none; hits = k }
+module _ {m : Plan} {p : ℕ} {ls work : List ℕ} (l : Leaf m (suc p) ls work p) where
+  pub leaf-in : p < area m
+  leaf-in = omega (arith, l .forest .few)
 
-  module _ {at : ℕ} (near : Near m (g .p) at) where
-    -- another label
-    pub other : (getD ls at 0 ≡ getD ls (g .p) 0 → ⊥) → Seen m g top ls work top work (λ q. q ≡ at)
-    unfolding picture
-    other k =
-        idle
-        (λ q e s.
-        let is = labelOf-is (m .width) (m .height) ls (t .flood .sizes .labels) in
-        let z : getD ls q 0 ≡ getD ls (g .p) 0 = sym (is q (s .end)) ∙ sym (s .same) ∙ is (g .p) (t .within) in
-        absurd (k (rw e at z)))
-
-    -- a number already
-    pub taken : Marked m work at → Seen m g top ls work top work (λ q. q ≡ at)
-    taken k = idle (λ q e s. rw e k)
-
-    module _ (like : getD ls at 0 ≡ getD ls (g .p) 0) (free : number m work at ≡ noIsland) where
-      hop : Step (view m ls) (g .p) at
-      unfolding picture
-      hop =
-          let is = labelOf-is (m .width) (m .height) ls (t .flood .sizes .labels) in
-          record {
-            start = t .within;
-            end = near .within;
-            same = is (g .p) (t .within) ∙ sym like ∙ sym (is at (near .within));
-            inside = hand-right .1;
-            right = near .right;
-            left = near .left;
-            down = near .down;
-            up = near .up;
-          }
-
-      pub next : Fresh m (g .first) (g .p) top at ls work
-      unfolding picture
-      next =
-          record {
-            flood = t .flood;
-            within = near .within;
-            right = sym (t .number) ∙ hand-right .0 ∙ firsts-same (view m ls) (picture-framed (m .width) (m .height) ls) (g .p) at (t .within) (step hop here);
-            inside = λ z. hand-right .1 (hop .same ∙ z);
-            free = free;
-          }
-
-      pub pushed : Seen m g top ls work (top + 1) (marked m (g .first) at top work) (λ q. q ≡ at)
-      pushed =
-          record {
-            held = record { flood = mark-flood next; within = t .within; column = t .column; number = mark-kept next (g .p) (t .within) hand-marked ∙ t .number };
-            grew = mark-grew next;
-            hits = λ q e s. rw e (mark-new next);
-          }
-
--- SEVERAL
-
-module _ {m : Plan} {g : Hand} {top top₁ : ℕ} {ls a b : List ℕ} {S : ℕ → Type 0} where
-  -- a smaller set
-  seen-as :
-      {U : ℕ → Type 0}
-      → Seen m g top ls a top₁ b S
-      → ((q : ℕ) → U q → Step (view m ls) (g .p) q → S q)
-      → Seen m g top ls a top₁ b U
-  seen-as f u = record { held = f .held; grew = f .grew; hits = λ q i s. f .hits q (u q i s) s }
-
-  seen-both :
-      {T : ℕ → Type 0} {top₂ : ℕ} {c : List ℕ}
-      → Seen m g top ls a top₁ b S
-      → Seen m g top₁ ls b top₂ c T
-      → Seen m g top ls a top₂ c (λ q. S q ⊎ T q)
+  -- an equal neighbour
+  pub step-before : {q : ℕ} → Before m p q → getD ls q 0 ≡ getD ls p 0 → Step (view m ls) p q
   unfolding picture
-  seen-both f k =
+  step-before {q} b e =
       record {
-        held = k .held;
-        grew = grew-then (f .grew) (k .grew);
-        hits = λ q i s. ⊎-elim (λ i. grew-marked (k .grew) q (s .end) (f .hits q i s)) (λ i. k .hits q i s) i;
+        start = leaf-in;
+        end = omega (arith, b .earlier, leaf-in);
+        same = labelOf-is (m .width) (m .height) ls (l .forest .sizes .labels) p leaf-in ∙ sym e ∙ sym (labelOf-is (m .width) (m .height) ls (l .forest .sizes .labels) q (omega (arith, b .earlier, leaf-in)));
+        inside = l .inside;
+        right = b .right;
+        left = b .left;
+        down = b .down;
+        up = b .up;
       }
 
--- BESIDE
-
-module _ {m : Plan} {g : Hand} {at : ℕ} (column : g .x ≡ g .p % m .width) (o : Over m g at) where
-  pub at-near : Near m (g .p) at
-  at-near = record { within = o .within; right = omega (arith, o); left = omega (arith, o); down = o .down; up = o .up }
-
-  module _ (k : 0 < g .x) where
-    some-left : 0 < at % m .width
-    some-left = omega (arith, o .straight)
-
-    to-left : LeftOf m at (at - 1)
-    to-left = (omega (arith, left-column (m .width) (m .height) at (o .within) some-left), left-row (m .width) (m .height) at (o .within) some-left)
-
-    pub left-near : Near m (g .p) (at - 1)
-    left-near =
-        let r = to-left in
-        record { within = omega (arith, o .within); right = omega (arith, o); left = omega (arith, o); down = omega (arith, o .down); up = omega (arith, o .up) }
-
-  module _ (k : g .x + 1 < m .width) where
-    some-right : suc (at % m .width) < m .width
-    some-right = omega (arith, o .straight)
-
-    to-right : RightOf m at (at + 1)
-    to-right = (right-column (m .width) (m .height) at (o .within) some-right, right-row (m .width) (m .height) at (o .within) some-right)
-
-    pub right-near : Near m (g .p) (at + 1)
-    right-near =
-        let r = to-right in
-        record { within = right-in (m .width) (m .height) at (o .within) some-right; right = omega (arith, o); left = omega (arith, o); down = omega (arith, o .down); up = omega (arith, o .up) }
-
-  module _ {top : ℕ} {ls work : List ℕ} where
-    pub left-off : Held m g top ls work → g .x ≡ 0 → Seen m g top ls work top work (LeftOf m at)
-    left-off t z = idle t (λ q i s. absurd (omega (arith, o .straight)))
-
-    pub right-off : Held m g top ls work → m .width ≤ g .x + 1 → Seen m g top ls work top work (RightOf m at)
-    unfolding picture
-    right-off t z = idle t (λ q i s. absurd (omega (arith, i .0, o .straight, column-in (m .width) (m .height) q (s .end))))
-
-    module _ {top′ : ℕ} {work′ : List ℕ} where
-      pub left-seen : 0 < g .x → Seen m g top ls work top′ work′ (λ q. q ≡ at - 1) → Seen m g top ls work top′ work′ (LeftOf m at)
-      left-seen k f = seen-as f (λ q i s. let r = to-left k in same-pixel (m .width) q (at - 1) (omega (arith, r .0, i .0)) (i .1 ∙ sym (r .1)))
-
-      pub right-seen : g .x + 1 < m .width → Seen m g top ls work top′ work′ (λ q. q ≡ at + 1) → Seen m g top ls work top′ work′ (RightOf m at)
-      right-seen k f = seen-as f (λ q i s. let r = to-right k in same-pixel (m .width) q (at + 1) (i .0 ∙ sym (r .0)) (i .1 ∙ sym (r .1)))
-
-  -- a neighbour in the row of `at`
-  in-row : (ls : List ℕ) (q : ℕ) → InRow m at q → Step (view m ls) (g .p) q → (q ≡ at) ⊎ (LeftOf m at q ⊎ RightOf m at q)
+  -- a neighbour with another label
+  pub other-label : {q : ℕ} → (getD ls q 0 ≡ getD ls p 0 → ⊥) → Step (view m ls) p q → ⊥
   unfolding picture
-  in-row ls q i s =
-      elim (ℕ-discrete (q % m .width) (at % m .width)) [
-        | yes e ↦ inl (same-pixel (m .width) q at e i)
-        | no n ↦
-            elim (decLt (q % m .width) (at % m .width)) [
-              | yes l ↦ inr (inl (omega (arith, s .left, o), i))
-              | no l ↦ inr (inr (omega (arith, s .right, o), i))
-            ]
-      ]
+  other-label {q} n s = n (sym (labelOf-is (m .width) (m .height) ls (l .forest .sizes .labels) q (s .end)) ∙ sym (s .same) ∙ labelOf-is (m .width) (m .height) ls (l .forest .sizes .labels) p (s .start))
 
-  module _ {top top₁ top₂ top₃ : ℕ} {ls a b c d : List ℕ} where
-    pub rowed :
-        Seen m g top ls a top₁ b (λ q. q ≡ at)
-        → Seen m g top₁ ls b top₂ c (LeftOf m at)
-        → Seen m g top₂ ls c top₃ d (RightOf m at)
-        → Seen m g top ls a top₃ d (InRow m at)
-    rowed f l r = seen-as (seen-both f (seen-both l r)) (λ q i s. in-row ls q i s)
+  -- MEETING ONE
 
--- ABOVE AND BELOW
+  pub met-none : {S : ℕ → Type 0} → ((q : ℕ) → S q → Step (view m ls) p q → ⊥) → Met m p ls work work S
+  met-none n = record { grown = grown-none (l .forest); hits = λ q i s. absurd (n q i s) }
 
-module _ {m : Plan} {g : Hand} {top : ℕ} {ls work : List ℕ} (t : Held m g top ls work) where
-  pub above-off : g .p < m .width → Seen m g top ls work top work (Above m (g .p))
-  above-off k = idle t (λ q i s. absurd (omega (arith, i, div-eq-of-lt k)))
+pub met-other : {m : Plan} {p q : ℕ} {ls work : List ℕ} → Leaf m (suc p) ls work p → (getD ls q 0 ≡ getD ls p 0 → ⊥) → Met m p ls work work (λ r. r ≡ q)
+met-other {m} {p} {q} {ls} l n = met-none l (λ z e s. other-label l n (subst (Step (view m ls) p) e s))
 
-  module _ (k : m .width ≤ g .p) where
-    up-one : g .p - m .width + m .width ≡ g .p
+pub met-one : {m : Plan} {p q : ℕ} {ls work work′ : List ℕ} → Grown m (suc p) ls work work′ × Tied m (suc p) ls work′ p q → Met m p ls work work′ (λ r. r ≡ q)
+met-one {m} {p} {q} {ls} {work} {work′} t = record { grown = t .0; hits = λ z e s. subst (Tied m (suc p) ls work′ p) (sym e) (t .1) }
+
+pub met-as : {m : Plan} {p : ℕ} {ls work work′ : List ℕ} {S T : ℕ → Type 0} → Met m p ls work work′ S → ((q : ℕ) → T q → Step (view m ls) p q → S q) → Met m p ls work work′ T
+met-as f t = record { grown = f .grown; hits = λ q i s. f .hits q (t q i s) s }
+
+pub met-both : {m : Plan} {p : ℕ} {ls a b c : List ℕ} {S T : ℕ → Type 0} → Met m p ls a b S → Met m p ls b c T → Met m p ls a c (λ q. S q ⊎ T q)
+met-both {m} {p} {ls} {a} {b} {c} {S} {T} f g = record { grown = grown-then (f .grown) (g .grown); hits = λ q i s. go q i s }
+  where
+    go : (q : ℕ) → S q ⊎ T q → Step (view m ls) p q → Tied m (suc p) ls c p q
+    go q (inl i) s = tied-grown (g .grown) (f .hits q i s)
+    go q (inr i) s = g .hits q i s
+
+pub met-leaf : {m : Plan} {p : ℕ} {ls work work′ : List ℕ} {S : ℕ → Type 0} → Leaf m (suc p) ls work p → Met m p ls work work′ S → Leaf m (suc p) ls work′ p
+met-leaf l f = record { forest = f .grown .forest; within = l .within; inside = l .inside }
+
+-- LEFT AND RIGHT of `at`
+
+module _ {m : Plan} {x p at : ℕ} {ls work : List ℕ} (l : Leaf m (suc p) ls work p) (o : Over m x p at) where
+  at-in : at < m .width * m .height
+  at-in = omega (arith, o .earlier, leaf-in l)
+
+  pub column-low : x ≤ p
+  column-low = omega (arith, o .column, mod-le p (m .width))
+
+  module _ (k : 0 < x) where
+    to-left : (suc ((at - 1) % m .width) ≡ at % m .width) × ((at - 1) / m .width ≡ at / m .width)
+    to-left = let c : 0 < at % m .width = omega (arith, o .straight) in (left-column (m .width) (m .height) at at-in c, left-row (m .width) (m .height) at at-in c)
+
+    pub at-some : 0 < at
+    at-some = omega (arith, mod-le at (m .width), o .straight)
+
+    pub left-before : Before m p (at - 1)
+    left-before = record { earlier = omega (arith, o .earlier, at-some); right = omega (arith, to-left, o .straight, o .column); left = omega (arith, to-left, o .straight, o .column); down = omega (arith, to-left, o .down); up = omega (arith, to-left, o .up) }
+
+    pub left-met : {work′ : List ℕ} → Met m p ls work work′ (λ r. r ≡ at - 1) → Met m p ls work work′ (LeftOf m at)
+    left-met f = met-as f (λ q i s. same-pixel (m .width) q (at - 1) (omega (arith, i .0, to-left .0)) (i .1 ∙ sym (to-left .1)))
+
+  pub right-none : m .width ≤ x + 1 → Met m p ls work work (RightOf m at)
+  unfolding picture
+  right-none k = met-none l (λ q i s. omega (arith, i .0, o .straight, column-in (m .width) (m .height) q (s .end)))
+
+  module _ (k : x + 1 < m .width) where
+    to-right : ((at + 1) % m .width ≡ suc (at % m .width)) × ((at + 1) / m .width ≡ at / m .width)
+    to-right = let c : suc (at % m .width) < m .width = omega (arith, o .straight) in (right-column (m .width) (m .height) at at-in c, right-row (m .width) (m .height) at at-in c)
+
+    pub right-before : Above m p at → Before m p (at + 1)
+    right-before a = record {
+      earlier = row-before (m .width) (m .height) (at + 1) p (omega (arith, row-before (m .width) (m .height) at p at-in a, leaf-in l)) (omega (arith, a, to-right .1));
+      right = omega (arith, to-right, o .straight, o .column);
+      left = omega (arith, to-right, o .straight, o .column);
+      down = omega (arith, to-right, o .down);
+      up = omega (arith, to-right, o .up);
+    }
+
+    pub right-met : {work′ : List ℕ} → Met m p ls work work′ (λ r. r ≡ at + 1) → Met m p ls work work′ (RightOf m at)
+    right-met f = met-as f (λ q i s. same-pixel (m .width) q (at + 1) (i .0 ∙ sym (to-right .0)) (i .1 ∙ sym (to-right .1)))
+
+-- a neighbour in the row of `at`, which stands in the column of p
+in-row : {m : Plan} {x p at : ℕ} (ls : List ℕ) → Over m x p at → (q : ℕ) → q / m .width ≡ at / m .width → Step (view m ls) p q → (q ≡ at) ⊎ (LeftOf m at q ⊎ RightOf m at q)
+unfolding picture
+in-row {m} {x} {p} {at} ls o q i s =
+    elim (ℕ-discrete (q % m .width) (at % m .width)) [
+      | yes e ↦ inl (same-pixel (m .width) q at e i)
+      | no n ↦
+          elim (decLt (q % m .width) (at % m .width)) [
+            | yes l ↦ inr (inl (omega (arith, s .left, o .column, o .straight), i))
+            | no l ↦ inr (inr (omega (arith, s .right, o .column, o .straight), i))
+          ]
+    ]
+
+-- THE ROW ABOVE
+
+module _ {m : Plan} {x p : ℕ} {ls work : List ℕ} (g : Hand m x p ls work) where
+  pub above-none : p < m .width → Met m p ls work work (Above m p)
+  above-none k = met-none (g .leaf) (λ q i s. omega (arith, i, div-eq-of-lt k))
+
+  module _ (k : m .width ≤ p) where
+    abbrev north : ℕ
+    north = p - m .width
+
+    up-one : north + m .width ≡ p
     up-one = omega arith
 
-    up-row : suc ((g .p - m .width) / m .width) ≡ g .p / m .width
-    up-row = sym (below-row (m .width) (m .height) (g .p - m .width) (omega (arith, t .within))) ∙ ap (λ (i : ℕ). i / m .width) up-one
+    north-in : north < m .width * m .height
+    north-in = omega (arith, leaf-in (g .leaf))
 
-    pub above-over : Over m g (g .p - m .width)
-    above-over =
-        record {
-          within = omega (arith, t .within);
-          straight = sym (add-mod-right (g .p - m .width) (m .width)) ∙ ap (λ (i : ℕ). i % m .width) up-one ∙ sym (t .column);
-          down = omega (arith, up-row);
-          up = omega (arith, up-row);
-        }
+    pub north-above : Above m p north
+    north-above = sym (below-row (m .width) (m .height) north north-in) ∙ ap (λ (i : ℕ). i / m .width) up-one
 
-    pub above-seen :
-        {top′ : ℕ} {work′ : List ℕ}
-        → Seen m g top ls work top′ work′ (InRow m (g .p - m .width))
-        → Seen m g top ls work top′ work′ (Above m (g .p))
-    above-seen f = seen-as f (λ q i s. omega (arith, i, up-row))
-
-  pub below-off : length ls ≤ g .p + m .width → Seen m g top ls work top work (Below m (g .p))
-  unfolding picture
-  below-off k =
-      idle t
-      (λ q i s.
-      let l : suc (g .p / m .width) < m .height = omega (arith, i, row-in (m .width) (m .height) q (s .end)) in
-      absurd (omega (arith, t .flood .sizes .labels, below-in (m .width) (m .height) (g .p) (t .within) l)))
-
-  module _ (k : g .p + m .width < length ls) where
-    pub below-over : Over m g (g .p + m .width)
-    below-over =
-        let r = below-row (m .width) (m .height) (g .p) (t .within) in
-        record { within = omega (arith, t .flood .sizes .labels); straight = add-mod-right (g .p) (m .width) ∙ sym (t .column); down = omega arith; up = omega arith }
-
-    pub below-seen :
-        {top′ : ℕ} {work′ : List ℕ}
-        → Seen m g top ls work top′ work′ (InRow m (g .p + m .width))
-        → Seen m g top ls work top′ work′ (Below m (g .p))
-    below-seen f = seen-as f (λ q i s. i ∙ sym (below-row (m .width) (m .height) (g .p) (t .within)))
-
-  pub width-fits : m .width ≤ area m
-  width-fits = width-in (m .width) (m .height) (g .p) (t .within)
-
-  pub width-some : 0 < m .width
-  width-some = width-pos (m .width) (m .height) (g .p) (t .within)
-
-  pub own : Over m g (g .p)
-  own = record { within = t .within; straight = sym (t .column); down = omega arith; up = omega arith }
-
--- ALL EIGHT
-
-module _ {m : Plan} {g : Hand} {top top₁ top₂ top₃ top₄ : ℕ} {ls a b c d e : List ℕ} where
-  pub all-seen :
-      Seen m g top ls a top₁ b (Above m (g .p))
-      → Seen m g top₁ ls b top₂ c (Below m (g .p))
-      → Seen m g top₂ ls c top₃ d (LeftOf m (g .p))
-      → Seen m g top₃ ls d top₄ e (RightOf m (g .p))
-      → Spread m (g .first) top ls a top₄ e
-  unfolding picture
-  all-seen u v l r =
-      record {
-        flood =
-            record {
-              sizes = all .held .flood .sizes;
-              sound = all .held .flood .sound;
-              marks = all .held .flood .marks;
-              stacked = all .held .flood .stacked;
-              rest = λ q i m. rest q (all .held .flood .rest q i m);
-              room = all .held .flood .room;
-            };
-        grew = all .grew;
-      }
-    where
-      all : Seen m g top ls a top₄ e (λ q. Above m (g .p) q ⊎ (Below m (g .p) q ⊎ (LeftOf m (g .p) q ⊎ RightOf m (g .p) q)))
-      all = seen-both u (seen-both v (seen-both l r))
-
-      shut : Done m ls e (g .p)
-      shut q s =
-          elim (ℕ-discrete (q / m .width) (g .p / m .width)) [
-            | yes i ↦ go (in-row (all .held .column) (own (all .held)) ls q i s)
-            | no n ↦
-                elim (decLt (q / m .width) (g .p / m .width)) [
-                  | yes l ↦ all .hits q (inl (omega (arith, s .up))) s
-                  | no l ↦ all .hits q (inr (inl (omega (arith, s .down)))) s
-                ]
-          ]
-        where
-          go : (q ≡ g .p) ⊎ (LeftOf m (g .p) q ⊎ RightOf m (g .p) q) → Marked m e q
-          go (inl i) = rw i (hand-marked (all .held))
-          go (inr i) = all .hits q (inr (inr i)) s
-
-      rest : (q : ℕ) → (q ≡ g .p) ⊎ (On m top₄ e q ⊎ Done m ls e q) → (q ≡ area m) ⊎ (On m top₄ e q ⊎ Done m ls e q)
-      rest q (inl i) = inr (inr (rw i shut))
-      rest q (inr o) = inr o
-
--- THE STACK
-
--- its last comes into the hand
-pub popped :
-    {m : Plan} {first p top : ℕ} {ls work : List ℕ}
-    → Flood m first (area m) top ls work
-    → 0 < top
-    → getD work (m .stack + (top - 1)) 0 ≡ p
-    → Held m (record { first = first; p = p; x = p % m .width }) (top - 1) ls work
-popped {m} {first} {p} {top} {ls} {work} t pos e =
-    let v = t .stacked (top - 1) (omega arith) in
-    record {
-      flood =
-          record {
-            sizes = t .sizes;
-            sound = t .sound;
-            marks = t .marks;
-            stacked = λ j l. t .stacked j (omega arith);
-            rest = λ q l m. rest q l (t .rest q l m);
-            room = omega (arith, t .room);
-          };
-      within = rw e at (v .0);
-      column = refl;
-      number = rw e at (v .1);
+    pub north-over : Over m x p north
+    north-over = record {
+      earlier = omega arith;
+      column = g .column;
+      straight = sym (add-mod-right north (m .width)) ∙ ap (λ (i : ℕ). i % m .width) up-one ∙ sym (g .column);
+      down = omega (arith, north-above);
+      up = omega (arith, north-above);
     }
-  where
-    rest : (q : ℕ) → q < area m → (q ≡ area m) ⊎ (On m top work q ⊎ Done m ls work q) → (q ≡ p) ⊎ (On m (top - 1) work q ⊎ Done m ls work q)
-    rest q l (inl z) = absurd (omega arith)
-    rest q l (inr (inl o)) =
-        elim (ℕ-discrete (o .place) (top - 1)) [
-          | yes z ↦ inl (sym (o .holds) ∙ ap (λ (i : ℕ). getD work (m .stack + i) 0) z ∙ e)
-          | no n ↦ inr (inl (record { place = o .place; below = omega (arith, o .below); holds = o .holds }))
-        ]
-    rest q l (inr (inr d)) = inr (inr d)
 
--- and its neighbours are seen
-pub popped-then : {m : Plan} {first top top₁ top₂ : ℕ} {ls a b c : List ℕ} → Grew m first top a top₁ b → Spread m first (top₁ - 1) ls b top₂ c → Spread m first top ls a top₂ c
-popped-then f g = record { flood = g .flood; grew = grew-then (grew-popped f) (g .grew) }
+    pub north-before : Before m p north
+    north-before = record {
+      earlier = row-before (m .width) (m .height) north p north-in north-above;
+      right = omega (arith, north-over .straight, g .column);
+      left = omega (arith, north-over .straight, g .column);
+      down = omega (arith, north-above);
+      up = omega (arith, north-above);
+    }
+
+    in-north : (q : ℕ) → Above m p q → Step (view m ls) p q → (q ≡ north) ⊎ (LeftOf m north q ⊎ RightOf m north q)
+    in-north q i s = in-row ls north-over q (omega (arith, i, north-above)) s
+
+    -- the one right above is equal: what is beside it is in its tree
+    pub above-equal : {work′ : List ℕ} → getD ls north 0 ≡ getD ls p 0 → Met m p ls work work′ (λ r. r ≡ north) → Met m p ls work work′ (Above m p)
+    unfolding picture
+    above-equal {work′} e f = record { grown = f .grown; hits = λ q i s. hit q i s }
+      where
+        north-step : Step (view m ls) p north
+        north-step = step-before (g .leaf) north-before e
+
+        hit : (q : ℕ) → Above m p q → Step (view m ls) p q → Tied m (suc p) ls work′ p q
+        hit q i s =
+            let beside : Step (view m ls) north q =
+            record {
+              start = north-in;
+              end = s .end;
+              same = sym (north-step .same) ∙ s .same;
+              inside = λ z. g .leaf .inside (north-step .same ∙ z);
+              right = omega (arith, s .right, north-over .straight, g .column);
+              left = omega (arith, s .left, north-over .straight, g .column);
+              down = omega (arith, i, north-above);
+              up = omega (arith, i, north-above);
+            } in
+            tied-to (f .hits north refl north-step) (tied-grown (f .grown) (g .ties north q (north-before .earlier) (row-before (m .width) (m .height) q p (s .end) i) beside))
+
+    pub above-apart : {b c : List ℕ} → (getD ls north 0 ≡ getD ls p 0 → ⊥) → Met m p ls work b (LeftOf m north) → Met m p ls b c (RightOf m north) → Met m p ls work c (Above m p)
+    above-apart {b} {c} n f h = met-as (met-both f h) (λ q i s. go q s (in-north q i s))
+      where
+        go : (q : ℕ) → Step (view m ls) p q → (q ≡ north) ⊎ (LeftOf m north q ⊎ RightOf m north q) → LeftOf m north q ⊎ RightOf m north q
+        go q s (inl e) = absurd (other-label (g .leaf) n (subst (Step (view m ls) p) e s))
+        go q s (inr i) = i
+
+-- JOINING p and q, by their roots a and b
+
+module _ {m : Plan} {p q : ℕ} {ls work : List ℕ} (l : Leaf m (suc p) ls work p) (h : Before m p q) (e : getD ls q 0 ≡ getD ls p 0) where
+  module _ {a : ℕ} {work₁ : List ℕ} (ra : Rooted m (suc p) ls p work a work₁) where
+    pub second-leaf : Leaf m (suc p) ls work₁ q
+    second-leaf = record { forest = ra .grown .forest; within = omega (arith, h .earlier); inside = λ z. l .inside (step-before l h e .same ∙ z) }
+
+    module _ {b : ℕ} {work₂ : List ℕ} (rb : Rooted m (suc p) ls q work₁ b work₂) where
+      pub joined-first : a < b → Met m p ls work (set work₂ (m .ids + b) a) (λ r. r ≡ q)
+      joined-first k = met-one (below-first l (omega (arith, h .earlier)) (step (step-before l h e) here) ra rb k)
+
+      pub joined-second : b ≤ a → Met m p ls work (set work₂ (m .ids + a) b) (λ r. r ≡ q)
+      joined-second k = met-one (below-second l (omega (arith, h .earlier)) (step (step-before l h e) here) ra rb k)

@@ -303,10 +303,6 @@ module _ {A : Type 0} where
   keep-few t [] = omega arith
   keep-few t (a ∷ l) = omega (arith, length-keep t a l, one-le (t a), keep-few t l)
 
-  pub keep-some : (t : A → Bool) (l : List A) (a : A) → In a l → t a ≡ true → 0 < length (keep t l)
-  keep-some t (b ∷ l) a (here e) p = omega (arith, length-keep t b l, ap one (ap t (sym e) ∙ p))
-  keep-some t (b ∷ l) a (there i) p = omega (arith, length-keep t b l, keep-some t l a i p)
-
   pub keep-yes : (t : A → Bool) (a : A) (l : List A) → t a ≡ true → keep t (a ∷ l) ≡ a ∷ keep t l
   unfolding keep
   keep-yes t a l e = go (t a) e
@@ -340,33 +336,6 @@ module _ {A : Type 0} where
     unfolding keep
     keep-even [] k = refl
     keep-even (a ∷ l) k = omega (arith, length-keep f a l, length-keep g a l, ap one (k a (here refl)), keep-even l (λ b i. k b (there i)))
-
-    -- one member fails and the others stay
-    pub keep-less :
-        (l : List A) (a : A)
-        → Distinct l
-        → In a l
-        → f a ≡ true
-        → g a ≡ false
-        → ((b : A) → In b l → (b ≡ a → ⊥) → f b ≡ g b)
-        → length (keep f l) ≡ suc (length (keep g l))
-    keep-less (b ∷ l) a d (here e) p q k =
-        omega (
-          arith,
-          length-keep f b l,
-          length-keep g b l,
-          ap one (ap f (sym e) ∙ p),
-          ap one (ap g (sym e) ∙ q),
-          keep-even l (λ c i. k c (there i) (λ z. d .0 (subst (λ c. In c l) (z ∙ e) i))),
-        )
-    keep-less (b ∷ l) a d (there i) p q k =
-        omega (
-          arith,
-          length-keep f b l,
-          length-keep g b l,
-          ap one (k b (here refl) (λ z. d .0 (subst (λ c. In c l) (sym z) i))),
-          keep-less l a (d .1) i p q (λ c j. k c (there j)),
-        )
 
 -- BY NUMBER
 
@@ -418,10 +387,5 @@ count-suc t n =
     rw (upto-snoc n 0, z, keep-append t (upto n 0) (n ∷ []))
     (omega (arith, length-append (keep t (upto n 0)) (keep t (n ∷ [])), length-keep t n []))
 
-pub count-pos : (t : ℕ → Bool) (n p : ℕ) → p < n → t p ≡ true → 0 < count t n
-count-pos t n p h e = keep-some t (upto n 0) p (in-upto n 0 p (omega arith) (omega arith)) e
-
-pub count-less :
-    (f g : ℕ → Bool) (n p : ℕ) → p < n → f p ≡ true → g p ≡ false → ((q : ℕ) → q < n → (q ≡ p → ⊥) → f q ≡ g q) → count f n ≡ suc (count g n)
-count-less f g n p h e z k =
-    keep-less f g (upto n 0) p (upto-distinct n 0) (in-upto n 0 p (omega arith) (omega arith)) e z (λ q i. k q (omega (arith, upto-in n 0 q i .1)))
+pub count-same : (f g : ℕ → Bool) (n : ℕ) → ((q : ℕ) → q < n → f q ≡ g q) → count f n ≡ count g n
+count-same f g n h = keep-even f g (upto n 0) (λ q i. h q (omega (arith, upto-in n 0 q i .1)))

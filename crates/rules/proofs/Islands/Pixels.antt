@@ -4,7 +4,7 @@ use mathlib.Core.Bool.{Bool, cond, _&&_}
 use mathlib.Core.List.{List}
 use mathlib.Core.Logic.{_⊎_, inl, inr}
 use Prim.Native.Nat.{ℕ, zero, suc, _+_, _-_, _*_, _/_, _%_, _≤_, _<_}
-use native.Mathlib.Nat.{mod-lt, mod-eq-of-lt, div-eq-of-lt, div-lt-iff-lt-mul, div-add-mod', mul-add-mod-self-right, mul-add-div-right, add-div-right, mul-comm, suc-mul, zero-mul, mul-le-mul-right, mul-le-mul-left, mul-one, not-suc-le-zero}
+use native.Mathlib.Nat.{mod-lt, mod-eq-of-lt, div-eq-of-lt, div-lt-iff-lt-mul, div-add-mod', mul-add-mod-self-right, mul-add-div-right, add-div-right, mul-comm, suc-mul, zero-mul, mul-le-mul-right, not-suc-le-zero}
 use native.Mathlib.Numerals.{add-one}
 use native.Mathlib.Omega.{arith}
 use native.Mathlib.Decide.{ℕ-discrete}
@@ -37,9 +37,6 @@ module _ (w h p : ℕ) (hp : p < w * h) where
   pub row-in : p / w < h
   row-in = div-lt-iff-lt-mul width-pos .1 (rw (mul-comm h w) hp)
 
-  pub width-in : w ≤ w * h
-  width-in = omega (arith, mul-le-mul-left w (let k : 1 ≤ h = omega (arith, row-in) in k), mul-one w)
-
   -- the pixels beside it
   pub left-column : 0 < p % w → suc ((p - 1) % w) ≡ p % w
   left-column k =
@@ -65,9 +62,6 @@ module _ (w h p : ℕ) (hp : p < w * h) where
     right-in = rw right-is (pixel-in w h (suc (p % w)) (p / w) k row-in)
 
   -- and below it
-  pub below-in : suc (p / w) < h → p + w < w * h
-  below-in k = omega (arith, pixel-in w h (p % w) (suc (p / w)) column-in k, suc-mul (p / w) w, div-add-mod' p w)
-
   pub below-row : (p + w) / w ≡ suc (p / w)
   below-row = add-div-right p width-pos ∙ add-one (p / w)
 

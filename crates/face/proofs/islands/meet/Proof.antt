@@ -1,0 +1,28 @@
+-- `islands::meet` meets its contract.
+use mathlib.Core.Path.{sym, _∙_}
+use borrow.Author.Needs.{needs}
+use Rattle.face.proofs.islands.Neighbours.{met-other}
+use Rattle.face.proofs.islands.meet.Statement.{statement}
+use Rattle.face.proofs.islands.meet.Tie as tie
+
+at-requires : tie.Need-at-requires
+at-requires c κs = search needs
+
+at-requires-2 : tie.Need-at-requires-2
+at-requires-2 c κs = search needs
+
+join-requires : tie.Need-join-requires
+join-requires c κs = search needs
+
+same-length : tie.Need-same-length
+same-length c = search needs
+
+returns : tie.Need-returns
+returns c = search needs
+
+returns-2 : tie.Need-returns-2
+returns-2 c = met-other (c .before .before .before .before .before .pre .0) (λ z. c .if1 .left (c .before .before .at .ensures ∙ z ∙ sym (c .before .at2 .ensures)))
+
+pub meet-spec : {M : Type 1} → statement M
+meet-spec =
+    tie.close (tie.spec at-requires at-requires-2 join-requires same-length returns returns-2)

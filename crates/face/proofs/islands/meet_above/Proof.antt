@@ -1,0 +1,51 @@
+-- `islands::meet_above` meets its contract.
+use mathlib.Core.Path.{sym, _∙_}
+use borrow.Author.Needs.{needs}
+use Rattle.face.proofs.islands.Neighbours.{met-leaf, above-none, north-before, north-over, north-above, above-equal, above-apart}
+use Rattle.face.proofs.islands.meet_above.Statement.{statement}
+use Rattle.face.proofs.islands.meet_above.Tie as tie
+
+returns : tie.Need-returns
+returns c = above-none (c .before .before .before .before .pre) (c .if1 .taken)
+
+at-requires : tie.Need-at-requires
+at-requires c κs = search needs
+
+at-requires-2 : tie.Need-at-requires-2
+at-requires-2 c κs = search needs
+
+join-requires : tie.Need-join-requires
+join-requires c κs = (c .before .before .before .before .before .before .before .before .before .pre .leaf, (north-before (c .before .before .before .before .before .before .before .before .before .pre) (c .before .before .before .before .before .if1 .left), sym (c .before .before .before .at .ensures) ∙ c .before .if2 .taken ∙ c .before .before .at2 .ensures))
+
+same-length : tie.Need-same-length
+same-length c = search needs
+
+returns-2 : tie.Need-returns-2
+returns-2 c = above-equal (c .before .before .before .before .before .before .before .before .before .before .before .before .pre) (c .before .before .before .before .before .before .before .before .if1 .left) (sym (c .before .before .before .before .before .before .at .ensures) ∙ c .before .before .before .before .if2 .taken ∙ c .before .before .before .before .before .at2 .ensures) (c .before .before .join .ensures)
+
+meet-left-requires : tie.Need-meet-left-requires
+meet-left-requires c κs = (c .before .before .before .before .before .before .before .before .before .pre .leaf, north-over (c .before .before .before .before .before .before .before .before .before .pre) (c .before .before .before .before .before .if1 .left))
+
+meet-right-requires : tie.Need-meet-right-requires
+meet-right-requires c κs = (met-leaf (c .before .before .before .before .before .before .before .before .before .before .before .before .before .pre .leaf) (c .before .before .before .meet-left .ensures), (north-over (c .before .before .before .before .before .before .before .before .before .before .before .before .before .pre) (c .before .before .before .before .before .before .before .before .before .if1 .left), north-above (c .before .before .before .before .before .before .before .before .before .before .before .before .before .pre) (c .before .before .before .before .before .before .before .before .before .if1 .left)))
+
+same-length-2 : tie.Need-same-length-2
+same-length-2 c = search needs
+
+returns-3 : tie.Need-returns-3
+returns-3 c = above-apart (c .before .before .before .before .before .before .before .before .before .before .before .before .before .before .before .before .pre) (c .before .before .before .before .before .before .before .before .before .before .before .before .if1 .left) (λ z. c .before .before .before .before .before .before .before .before .if2 .left (c .before .before .before .before .before .before .before .before .before .before .at .ensures ∙ z ∙ sym (c .before .before .before .before .before .before .before .before .before .at2 .ensures))) (c .before .before .before .before .before .before .meet-left .ensures) (c .before .before .meet-right .ensures)
+
+pub meet-above-spec : {M : Type 1} → statement M
+meet-above-spec =
+    tie.close
+    (tie.spec
+    returns
+    at-requires
+    at-requires-2
+    join-requires
+    same-length
+    returns-2
+    meet-left-requires
+    meet-right-requires
+    same-length-2
+    returns-3)
