@@ -161,20 +161,21 @@ fn room<T>(records: usize) -> Result<Vec<T>, Refusal> {
     Ok(store)
 }
 
-/// Stores for any map of these sides; none where a side is too long. A node has three cracks or more, a crack two ends, and every
-/// contour passes a pixel of its own: the one above its first step east.
+/// Stores for any map of these sides, by the bounds that the library goes by: with so much room it counts nothing first. None where a
+/// side is too long. A crack has two sides, and every contour a corner of its own: where it first steps east.
 fn roomy(width: usize, height: usize) -> Result<Stores, Refusal> {
     if width.max(height) > LONGEST_SIDE {
         return Ok(Stores::default());
     }
+    let corners = (width + 1) * (height + 1);
     let pixels = width * height;
     let cracks = 2 * pixels + width + height;
     Ok(Stores {
-        nodes: room(2 * cracks / 3)?,
+        nodes: room(corners)?,
         segments: room(cracks)?,
         points: room(2 * cracks)?,
         references: room(2 * cracks)?,
-        contours: room(pixels)?,
+        contours: room(corners)?,
         faces: room(pixels)?,
     })
 }

@@ -129,10 +129,16 @@ module _ {ls : List ℕ} {trail heads list m : ℕ} {work : List ℕ} {fs : List
           (faces-then (let z = length-take-le f fs (omega (arith, all-count)) in omega arith) w (v (getD fs f noFace) here-first here-gathered))
 
   pub all-written : {f : ℕ} {refs cons faces refs′ cons′ faces′ : List ℕ} {done : Done} → m ≤ f → WroteFaces 0 (take f fs) nothing refs cons faces done refs′ cons′ faces′
-      → AllWritten fs refs cons faces refs′ cons′ faces′
+      → AllWritten fs refs cons faces done refs′ cons′ faces′
   all-written {f} {refs} {cons} {faces} {refs′} {cons′} {faces′} {done} h w =
       let v = subst (λ (gs : List Face). WroteFaces 0 gs nothing refs cons faces done refs′ cons′ faces′) (take-all f fs (omega (arith, all-count))) w in
-      record { reference-words = v .wrote .references; contour-words = v .wrote .contours; face-words = v .face-words }
+      record {
+        reference-words = v .wrote .references;
+        contour-words = v .wrote .contours;
+        face-words = v .face-words;
+        contours = omega (arith, ap (λ (d : Done). d .contours) (v .wrote .counts));
+        references = omega (arith, ap (λ (d : Done). d .references) (v .wrote .counts));
+      }
 
 -- the stores are as long as before
 module _ {f : ℕ} {fs : List Face} {done done′ : Done} {refs cons faces refs′ cons′ faces′ : List ℕ} (w : WroteFaces f fs done refs cons faces done′ refs′ cons′ faces′) where

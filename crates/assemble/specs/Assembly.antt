@@ -8,6 +8,7 @@ use Rattle.rules.specs.Face.{labelOf, firsts, faces}
 use Rattle.lattice.specs.declared.Size.{Size}
 use Rattle.lattice.specs.Size.{pic}
 use Rattle.lattice.specs.Planes.{plane}
+use Rattle.assemble.specs.declared.Done.{Done}
 use Rattle.assemble.specs.Changes.{Changed}
 use Rattle.assemble.specs.Drawn.{Drawn, Pointed}
 use Rattle.assemble.specs.Writing.{AllWritten}
@@ -28,10 +29,10 @@ pub record Stands (s : Size) (ls nodes segs points : List ℕ) (n : ℕ) (work :
   pub standing : Standing s ls nodes segs points n work ss
 
 -- the records of the faces of ss; of the work words only the planes 0 to 4, 6 and 7 have changed
-pub record Assembled (s : Size) (ls : List ℕ) (ss : List (List Dart)) (work refs cons outs work′ refs′ cons′ outs′ : List ℕ) : Type 0 where
-  pub written : AllWritten (faces (pic s ls) ss (s .paints)) refs cons outs refs′ cons′ outs′
+pub record Assembled (s : Size) (ls : List ℕ) (ss : List (List Dart)) (work refs cons outs : List ℕ) (done : Done) (work′ refs′ cons′ outs′ : List ℕ) : Type 0 where
+  pub written : AllWritten (faces (pic s ls) ss (s .paints)) refs cons outs done refs′ cons′ outs′
   pub changed : Changed 0 (5 * plane (s .width) (s .height)) (6 * plane (s .width) (s .height)) (2 * plane (s .width) (s .height)) work work′
 
-abbrev pub Assembles : Size → List ℕ → List ℕ → List ℕ → List ℕ → ℕ → List ℕ → List ℕ → List ℕ → List ℕ → List ℕ → List ℕ → List ℕ → List ℕ → Type 0
-Assembles s ls nodes segs points n work refs cons outs work′ refs′ cons′ outs′ =
-    (ss : List (List Dart)) → Standing s ls nodes segs points n work ss → Assembled s ls ss work refs cons outs work′ refs′ cons′ outs′
+abbrev pub Assembles : Size → List ℕ → List ℕ → List ℕ → List ℕ → ℕ → List ℕ → List ℕ → List ℕ → List ℕ → Done → List ℕ → List ℕ → List ℕ → List ℕ → Type 0
+Assembles s ls nodes segs points n work refs cons outs done work′ refs′ cons′ outs′ =
+    (ss : List (List Dart)) → Standing s ls nodes segs points n work ss → Assembled s ls ss work refs cons outs done work′ refs′ cons′ outs′

@@ -97,8 +97,10 @@ pub record Orderly (ls : List ℕ) (trail heads list m : ℕ) (work : List ℕ) 
   pub fs : List Face
   pub ordered : Ordered ls trail heads list m work fs
 
--- the records of all faces, from the front of each store
-pub record AllWritten (fs : List Face) (refs cons faces refs′ cons′ faces′ : List ℕ) : Type 0 where
+-- the records of all faces, from the front of each store, and how many contours and references they have
+pub record AllWritten (fs : List Face) (refs cons faces : List ℕ) (done : Done) (refs′ cons′ faces′ : List ℕ) : Type 0 where
   pub reference-words : refs′ ≡ sets refs 0 (flat (contoursOf fs))
   pub contour-words : cons′ ≡ sets cons 0 (contourWords 0 (contoursOf fs))
   pub face-words : faces′ ≡ sets faces 0 (faceWords 0 fs)
+  pub contours : done .contours ≡ length (contoursOf fs)
+  pub references : done .references ≡ length (flat (contoursOf fs))

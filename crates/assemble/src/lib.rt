@@ -30,9 +30,9 @@ struct Run {
 }
 
 // How many contours and references are written.
-struct Done {
-    contours: usize,
-    references: usize,
+pub struct Done {
+    pub contours: usize,
+    pub references: usize,
 }
 
 // The word k of the record of the reference r's segment.
@@ -489,7 +489,7 @@ fn write_face(
     d
 }
 
-// All faces, m of them.
+// All faces, m of them: how much is written.
 fn write_faces(
     labels: &[u32],
     work: &[u32],
@@ -500,9 +500,9 @@ fn write_faces(
     contours: &mut [u32],
     faces: &mut [u32],
     m: usize,
-)
+) -> Done
     requires { ⌜ Orderly (now labels) trail heads list m (now work) ⌝ }
-    ensures { λ _. ⌜ ((fs : List Face) → Ordered (now (labels .entry)) trail heads list m (now (work .entry)) fs → AllWritten fs (now (references .entry)) (now (contours .entry)) (now (faces .entry)) (now (references .exit)) (now (contours .exit)) (now (faces .exit))) ⌝ }
+    ensures { λ d. ⌜ ((fs : List Face) → Ordered (now (labels .entry)) trail heads list m (now (work .entry)) fs → AllWritten fs (now (references .entry)) (now (contours .entry)) (now (faces .entry)) d (now (references .exit)) (now (contours .exit)) (now (faces .exit))) ⌝ }
 {
     let mut done = Done {
         contours: 0,
@@ -524,10 +524,11 @@ fn write_faces(
         );
         f += 1;
     }
+    done
 }
 
-// The faces of the graph in its stores, n segments: references, contours and faces, from the front of each store. The plane 5 of the
-// work store holds the first pixel of each pixel's island; the others are used, whatever they hold: 0 to 3 for the trail, 4 for the heads
+// The faces of the graph in its stores, n segments: references, contours and faces, from the front of each store, and how many of the
+// first two. The plane 5 of the work store holds the first pixel of each pixel's island; the others are used, whatever they hold: 0 to 3 for the trail, 4 for the heads
 // of the islands, 6 for their list, 7 for the contours, and then for the sort.
 pub fn assemble(
     s: Size,
@@ -540,9 +541,9 @@ pub fn assemble(
     references: &mut [u32],
     contours: &mut [u32],
     faces: &mut [u32],
-)
+) -> Done
     requires { ⌜ Map s (now labels) ⌝ ∗ ⌜ Stands s (now labels) (now nodes) (now segments) (now points) n (now work) ⌝ }
-    ensures { λ _. ⌜ Assembles s (now (labels .entry)) (now (nodes .entry)) (now (segments .entry)) (now (points .entry)) n (now (work .entry)) (now (references .entry)) (now (contours .entry)) (now (faces .entry)) (now (work .exit)) (now (references .exit)) (now (contours .exit)) (now (faces .exit)) ⌝ }
+    ensures { λ d. ⌜ Assembles s (now (labels .entry)) (now (nodes .entry)) (now (segments .entry)) (now (points .entry)) n (now (work .entry)) (now (references .entry)) (now (contours .entry)) (now (faces .entry)) d (now (work .exit)) (now (references .exit)) (now (contours .exit)) (now (faces .exit)) ⌝ }
 {
     let plane = ((s.width as usize) + 1) * ((s.height as usize) + 1);
     let heads = 4 * plane;
@@ -554,5 +555,5 @@ pub fn assemble(
     let m = list_islands(labels, work, s.paints, heads, ids, list);
     thread(s, segments, points, work, 0, heads, ids, lasts, count);
     face::order::sort(labels, work, list, lasts, m);
-    write_faces(labels, work, 0, heads, list, references, contours, faces, m);
+    write_faces(labels, work, 0, heads, list, references, contours, faces, m)
 }

@@ -75,7 +75,7 @@ module _ (s : Size) (ls : List ℕ) where
           )
 
   -- of all six at once
-  same-checks : (ns ss ps : List ℕ) → graphChecks (cutList (mapOf s ls)) ns ss ps ≡ graphChecks (graphList (mapOf s ls)) ns ss ps
+  pub same-checks : (ns ss ps : List ℕ) → graphChecks (cutList (mapOf s ls)) ns ss ps ≡ graphChecks (graphList (mapOf s ls)) ns ss ps
   unfolding graphChecks cutList graphList cuts
   same-checks ns ss ps = refl
 

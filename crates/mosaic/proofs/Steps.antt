@@ -9,10 +9,11 @@ use Rattle.rules.specs.Lists.{flat}
 use Rattle.rules.specs.Graph.{nodes, segments}
 use Rattle.rules.specs.Face.{faces}
 use Rattle.rules.specs.Records.{nodeWords, segmentWords, pointWords, contoursOf, contourWords, faceWords}
-use Rattle.rules.specs.Calls.{pictureOf, cuts, graphList, cutList, counted, storeAfter}
+use Rattle.rules.specs.Calls.{cuts, graphList, cutList, counted, storeAfter}
 use Rattle.rules.proofs.Tracing.Partition.{describes}
 use Rattle.rules.proofs.CutList.Counts.{counts}
 use Rattle.rules.proofs.CutList.Lengths.{length-nodes, length-segments}
+use Rattle.store.specs.Words.{Kept}
 use Rattle.store.proofs.Writes.{kept-none, kept-within}
 use Rattle.lattice.specs.declared.Size.{Size}
 use Rattle.lattice.specs.Size.{Map, pic}
@@ -22,13 +23,13 @@ use Rattle.graph.specs.declared.Counts.{Counts}
 use Rattle.graph.specs.Extracted.{Extracted}
 use Rattle.graph.proofs.Listing.{noded-beyond}
 use Rattle.face.specs.declared.Counts.{Counts as FaceCounts}
-use Rattle.face.specs.Counts.{Counted}
+use Rattle.face.specs.Counts.{CountsOf, Counted}
+use Rattle.assemble.specs.declared.Done.{Done}
 use Rattle.assemble.specs.Drawn.{Written}
 use Rattle.assemble.specs.Assembly.{Standing, Assembled}
 use Rattle.assemble.proofs.Drawing.{drawn, pointed}
-use Rattle.mosaic.specs.declared.Answer.{Answer}
-use Rattle.mosaic.specs.Outcome.{mapOf, answerOf, graphAnswer}
-use Rattle.mosaic.specs.Steps.{GraphCounted, CountsGraph, CountsFaces, GraphRoomy, GraphWritten, FacesRoomy, FacesWritten}
+use Rattle.mosaic.specs.Outcome.{mapOf, answerOf, graphAnswer, withFaces}
+use Rattle.mosaic.specs.Steps.{GraphCounted, CountsGraph, IslandsNumbered, CountsFaces, GraphRoomy, GraphWritten, FacesRoomy, FacesWritten}
 use Rattle.mosaic.proofs.Outcomes.{store-written, store-kept}
 
 -- a word of those that stand at the front of a store
@@ -36,10 +37,6 @@ in-front : (words store : List ℕ) {store′ : List ℕ} → store′ ≡ words
 in-front words store e i h = rw e (List·getD-append words (drop (length words) store) 0 i h)
 
 -- the counts of faces beside those of the graph
-abbrev pub withFaces : Counts → FaceCounts → Answer
-withFaces c f =
-    record { number = 0; nodes = c .nodes; segments = c .segments; points = c .points; references = f .references; contours = f .contours; faces = f .faces; steps = c .steps }
-
 with-faces : (s : Size) (ls : List ℕ) (c : Counts) (f : FaceCounts) → answerOf (graphAnswer c) ≡ counted 0 (graphList (mapOf s ls))
     → f .references ≡ counted 0 (cutList (mapOf s ls)) .references → f .contours ≡ counted 0 (cutList (mapOf s ls)) .contours → f .faces ≡ counted 0 (cutList (mapOf s ls)) .faces
     → answerOf (withFaces c f) ≡ counted 0 (cutList (mapOf s ls))
@@ -79,34 +76,40 @@ module _ {s : Size} {ls : List ℕ} where
         kept-within (omega arith) (omega arith) (e .kept),
       )
 
-  pub faces-counted : {work work′ : List ℕ} {c : Counts} {f : FaceCounts} → GraphCounted s ls work c → Counted s ls work f work′ → CountsFaces s ls work c work′ (withFaces c f)
-  unfolding cutList
-  faces-counted {c} {f} g k =
-      let F = framed s ls in
-      let ss = segments (pictureOf (mapOf s ls)) in
-      let fs = faces (pictureOf (mapOf s ls)) ss (s .paints) in
-      let n = k .counts ss (describes F) in
-      let m = counts F (describes F) fs 0 in
-      record {
-        counts = with-faces s ls c f (g .counts) (n .references ∙ sym (m .references)) (n .contours ∙ sym (m .contours)) (n .faces ∙ sym (m .faces));
-        graph = record { counts = g .counts; noded = noded-beyond (k .kept) (g .noded); tallied = g .tallied };
-        numbers = k .numbers;
-        kept = kept-within (omega arith) (omega arith) (k .kept);
-      }
+  -- the graph's counts stay where planes from 5 on are used
+  pub still-counted : {work work′ : List ℕ} {c : Counts} → Kept (5 * plane (s .width) (s .height)) (8 * plane (s .width) (s .height)) work work′ → GraphCounted s ls work c → GraphCounted s ls work′ c
+  still-counted k g = record { counts = g .counts; noded = noded-beyond k (g .noded); tallied = g .tallied }
+
+  module _ {work : List ℕ} {c : Counts} {f : FaceCounts} (g : GraphCounted s ls work c) where
+    pub all-counted : CountsOf (faces (pic s ls) (segments (pic s ls)) (s .paints)) f → answerOf (withFaces c f) ≡ counted 0 (cutList (mapOf s ls))
+    unfolding cutList
+    all-counted n =
+        let F = framed s ls in
+        let m = counts F (describes F) (faces (pic s ls) (segments (pic s ls)) (s .paints)) 0 in
+        with-faces s ls c f (g .counts) (n .references ∙ sym (m .references)) (n .contours ∙ sym (m .contours)) (n .faces ∙ sym (m .faces))
+
+    pub faces-counted : {work′ : List ℕ} → Counted s ls work f work′ → CountsFaces s ls work c work′ (withFaces c f)
+    faces-counted k =
+        record {
+          counts = all-counted (k .counts (segments (pic s ls)) (describes (framed s ls)));
+          graph = still-counted (k .kept) g;
+          numbers = k .numbers;
+          kept = kept-within (omega arith) (omega arith) (k .kept);
+        }
 
   -- WRITTEN
 
   module _ {n : ℕ} {work ns ss ps : List ℕ} where
-    pub graph-written : {work′ ns′ ss′ ps′ : List ℕ} {c : Counts} → n ≡ 0 → GraphRoomy s ls n ns ss ps
-        → Extracted s ls 2 work ns ss ps work′ ns′ ss′ ps′ c → GraphWritten s ls n work ns ss ps work′ ns′ ss′ ps′
+    pub graph-written : {used : ℕ} {work₁ work₂ work′ ns′ ss′ ps′ : List ℕ} {c : Counts} → n ≡ 0 → GraphRoomy s ls n ns ss ps
+        → Extracted s ls used work₁ ns ss ps work₂ ns′ ss′ ps′ c → Kept 0 (2 * plane (s .width) (s .height)) work work′ → GraphWritten s ls n work ns ss ps work′ ns′ ss′ ps′
     unfolding graphList cuts
-    graph-written z r e =
+    graph-written z r e k =
         let l = graphList (mapOf s ls) in
         record {
           nodes = rw z (store-written (l .nodes) ns _ (r .nodes z) (e .node-store));
           segments = rw z (store-written (l .segments) ss _ (r .segments z) (e .segment-store));
           points = rw z (store-written (l .points) ps _ (r .points z) (e .point-store));
-          kept = e .kept;
+          kept = k;
         }
 
     pub graph-left : (n ≡ 0 → ⊥) → GraphWritten s ls n work ns ss ps work ns ss ps
@@ -120,10 +123,11 @@ module _ {s : Size} {ls : List ℕ} where
         }
 
   -- what the assembly asks, once the graph stands in its stores
-  pub graph-standing : {work₀ work work′ ns ss ps ns′ ss′ ps′ : List ℕ} {c : Counts} {a : Answer} {n : ℕ} → Map s ls → 8 * plane (s .width) (s .height) ≤ length work → n ≡ 0
-      → CountsFaces s ls work₀ c work a → GraphWritten s ls n work ns ss ps work′ ns′ ss′ ps′ → Standing s ls ns′ ss′ ps′ (c .segments) work′ (segments (pic s ls))
+  pub graph-standing : {work work′ ns ss ps ns′ ss′ ps′ : List ℕ} {c : Counts} {n : ℕ} → Map s ls → 8 * plane (s .width) (s .height) ≤ length work → n ≡ 0
+      → GraphCounted s ls work c → IslandsNumbered s ls work
+      → GraphWritten s ls n work ns ss ps work′ ns′ ss′ ps′ → Standing s ls ns′ ss′ ps′ (c .segments) work′ (segments (pic s ls))
   unfolding graphList counted cuts storeAfter
-  graph-standing {work} {ns} {ss} {ps} {c} M h z k w =
+  graph-standing {work} {ns} {ss} {ps} {c} M h z g numbers w =
       let P = pic s ls in
       let D = describes (framed s ls) in
       let sides = segments P in
@@ -135,14 +139,14 @@ module _ {s : Size} {ls : List ℕ} where
       record {
         drawn = drawn s ls M sides D _ _ _ written;
         pointed = pointed s ls M sides D _ _ _ written;
-        total = omega (arith, ap (λ b. b .segments) (k .graph .counts), length-segments P 0 sides);
+        total = omega (arith, ap (λ b. b .segments) (g .counts), length-segments P 0 sides);
         planes = omega (arith, w .kept .long);
-        numbers = λ p b o. w .kept .others (5 * plane (s .width) (s .height) + p) (inr (omega arith)) ∙ k .numbers p b o;
+        numbers = λ p b o. w .kept .others (5 * plane (s .width) (s .height) + p) (inr (omega arith)) ∙ numbers p b o;
       }
 
   module _ {n : ℕ} {work rs cs fs : List ℕ} where
-    pub faces-written : {work′ rs′ cs′ fs′ : List ℕ} → n ≡ 0 → FacesRoomy s ls n rs cs fs
-        → Assembled s ls (segments (pic s ls)) work rs cs fs work′ rs′ cs′ fs′ → FacesWritten s ls n work rs cs fs work′ rs′ cs′ fs′
+    pub faces-written : {work′ rs′ cs′ fs′ : List ℕ} {d : Done} → n ≡ 0 → FacesRoomy s ls n rs cs fs
+        → Assembled s ls (segments (pic s ls)) work rs cs fs d work′ rs′ cs′ fs′ → FacesWritten s ls n work rs cs fs work′ rs′ cs′ fs′
     unfolding cutList cuts
     faces-written z r e =
         let l = cutList (mapOf s ls) in

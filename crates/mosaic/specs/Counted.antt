@@ -1,11 +1,13 @@
 -- The number that stores of given lengths get, whatever cut list has the counts of an answer.
-use Prim.Native.Nat.{ℕ}
+use Prim.Native.Nat.{ℕ, _+_, _*_}
 use mathlib.Core.Bool.{true, false}
 use mathlib.Core.Path.{_≡_}
 use mathlib.Core.List.{List, _++_}
 use lib.Dec.{eqb}
 use lib.ListN.{length}
 use Rattle.rules.specs.Calls.{CutList, counted, firstHit, graphChecks, faceChecks}
+use Rattle.lattice.specs.declared.Size.{Size}
+use Rattle.lattice.specs.Planes.{plane}
 use Rattle.mosaic.specs.declared.Answer.{Answer}
 use Rattle.mosaic.specs.Outcome.{answerOf}
 
@@ -30,3 +32,11 @@ AllRoom a nodes segments points references contours faces n =
     (l : CutList) (ns ss ps rs cs fs : List ℕ) → answerOf a ≡ counted 0 l
     → length ns ≡ nodes → length ss ≡ segments → length ps ≡ points → length rs ≡ references → length cs ≡ contours → length fs ≡ faces
     → n ≡ firstHit (graphChecks l ns ss ps ++ faceChecks l rs cs fs)
+
+-- the counts that no map of these sides exceeds
+abbrev pub mostOf : Size → Answer
+mostOf s =
+    let corners = plane (s .width) (s .height) in
+    let pixels = s .width * s .height in
+    let cracks = 2 * pixels + s .width + s .height in
+    record { number = 0; nodes = corners; segments = cracks; points = 2 * cracks; references = 2 * cracks; contours = corners; faces = pixels; steps = cracks }

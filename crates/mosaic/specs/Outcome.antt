@@ -6,6 +6,7 @@ use Rattle.rules.specs.Calls.{Map, Outcome}
 use Rattle.rules.specs.Calls.{Answer as RulesAnswer}
 use Rattle.lattice.specs.declared.Size.{Size}
 use Rattle.graph.specs.declared.Counts.{Counts}
+use Rattle.face.specs.declared.Counts.{Counts as FaceCounts}
 use Rattle.mosaic.specs.declared.Answer.{Answer}
 
 abbrev pub mapWith : ℕ → ℕ → ℕ → List ℕ → Map
@@ -30,6 +31,11 @@ answerOf a =
 -- the counts of a graph, and none of faces
 abbrev pub graphAnswer : Counts → Answer
 graphAnswer c = record { number = 0; nodes = c .nodes; segments = c .segments; points = c .points; references = 0; contours = 0; faces = 0; steps = c .steps }
+
+-- and with those of faces
+abbrev pub withFaces : Counts → FaceCounts → Answer
+withFaces c f =
+    record { number = 0; nodes = c .nodes; segments = c .segments; points = c .points; references = f .references; contours = f .contours; faces = f .faces; steps = c .steps }
 
 -- the counts with another number
 abbrev pub withNumber : ℕ → Answer → Answer

@@ -26,12 +26,16 @@ pub record GraphCounted (s : Size) (ls work : List ℕ) (c : Counts) : Type 0 wh
 abbrev pub CountsGraph : Size → List ℕ → List ℕ → List ℕ → Counts → Type 0
 CountsGraph s ls work work′ c = GraphCounted s ls work′ c × Kept 0 (8 * plane (s .width) (s .height)) work work′
 
--- and its faces are, with the first pixel of each pixel's island in plane 5
+-- the first pixel of each pixel's island stands in plane 5
+abbrev pub IslandsNumbered : Size → List ℕ → List ℕ → Type 0
+IslandsNumbered s ls work =
+    (p : ℕ) → p < s .width * s .height → (labelOf (pic s ls) p ≡ OUTSIDE → ⊥) → getD work (5 * plane (s .width) (s .height) + p) 0 ≡ getD (firsts (pic s ls)) p 0
+
+-- and its faces are
 pub record CountsFaces (s : Size) (ls work : List ℕ) (c : Counts) (work′ : List ℕ) (a : Answer) : Type 0 where
   pub counts : answerOf a ≡ counted 0 (cutList (mapOf s ls))
   pub graph : GraphCounted s ls work′ c
-  pub numbers :
-      (p : ℕ) → p < s .width * s .height → (labelOf (pic s ls) p ≡ OUTSIDE → ⊥) → getD work′ (5 * plane (s .width) (s .height) + p) 0 ≡ getD (firsts (pic s ls)) p 0
+  pub numbers : IslandsNumbered s ls work′
   pub kept : Kept 0 (8 * plane (s .width) (s .height)) work work′
 
 -- WRITTEN, where the number is 0

@@ -3,18 +3,18 @@ use graph::Counts;
 use graph::Found;
 use lattice::Size;
 ghost use mathlib.Core.Path.{_≡_};
-ghost use mathlib.Core.List.{[], _∷_};
+ghost use mathlib.Core.List.{[], _∷_, _++_};
 ghost use Prim.Native.Nat.{_*_, _≤_};
 ghost use lib.Dec.{ltb};
 ghost use lib.ListN.{length, replicate};
 ghost use lib.Seq.{sets};
-ghost use Rattle.rules.specs.Calls.{mapChecks, firstHit, refused, size as sizeOf, graph as graphOf, whole as wholeOf};
+ghost use Rattle.rules.specs.Calls.{mapChecks, graphChecks, faceChecks, firstHit, refused, graphList, cutList, size as sizeOf, graph as graphOf, whole as wholeOf};
 ghost use Rattle.rules.specs.Graph.{segments as segmentsOf};
-ghost use Rattle.lattice.specs.Size.{Map, pic};
+ghost use Rattle.lattice.specs.Size.{Sides, Map, pic};
 ghost use Rattle.lattice.specs.Planes.{plane};
 ghost use Rattle.assemble.specs.Assembly.{Standing};
-ghost use Rattle.mosaic.specs.Outcome.{mapOf, mapWith, answerOf, graphAnswer, answerWords, outcome, answered};
-ghost use Rattle.mosaic.specs.Counted.{orElse, GraphRoom, FaceRoom, AllRoom};
+ghost use Rattle.mosaic.specs.Outcome.{mapOf, mapWith, answerOf, graphAnswer, withFaces, answerWords, outcome, answered};
+ghost use Rattle.mosaic.specs.Counted.{orElse, GraphRoom, FaceRoom, AllRoom, mostOf};
 ghost use Rattle.mosaic.specs.Steps.{GraphCounted, CountsGraph, CountsFaces, GraphRoomy, GraphWritten, FacesRoomy, FacesWritten};
 
 // The number of document 01, then the seven counts.
@@ -130,6 +130,26 @@ fn check_all(
     )
 }
 
+// The counts that no map of these sides exceeds: stores that pass the checks with them have room for any.
+fn most(s: Size) -> Answer
+    requires { ⌜ Sides s ⌝ }
+    ensures { λ r. ⌜ r ≡ mostOf s ⌝ }
+{
+    let corners = lattice::plane(s) as u32;
+    let pixels = s.width * s.height;
+    let cracks = 2 * pixels + s.width + s.height;
+    Answer {
+        number: 0,
+        nodes: corners,
+        segments: cracks,
+        points: 2 * cracks,
+        references: 2 * cracks,
+        contours: corners,
+        faces: pixels,
+        steps: cracks,
+    }
+}
+
 // STEPS
 
 // The work store's first eight planes to 0.
@@ -167,17 +187,24 @@ fn answer_graph(c: Counts) -> Answer
     }
 }
 
+// The answer to a map whose graph has the counts c, and its faces the counts f.
+fn answer_whole(c: Counts, f: face::Counts) -> Answer
+    ensures { λ r. ⌜ r ≡ withFaces c f ⌝ }
+{
+    let mut a = answer_graph(c);
+    a.references = f.references;
+    a.contours = f.contours;
+    a.faces = f.faces;
+    a
+}
+
 // The counts of the faces beside the graph's.
 fn count_faces(s: Size, labels: &[u32], work: &mut [u32], c: Counts) -> Answer
     requires { ⌜ Map s (now labels) ⌝ ∗ ⌜ 8 * plane (s .width) (s .height) ≤ length (now work) ⌝ ∗ ⌜ GraphCounted s (now labels) (now work) c ⌝ }
     ensures { λ r. ⌜ CountsFaces s (now (labels .entry)) (now (work .entry)) c (now (work .exit)) r ⌝ }
 {
     let f = face::count(s, labels, work);
-    let mut a = answer_graph(c);
-    a.references = f.references;
-    a.contours = f.contours;
-    a.faces = f.faces;
-    a
+    answer_whole(c, f)
 }
 
 // The graph with the counts c into its stores, where the number says that they have room.
@@ -221,7 +248,7 @@ fn write_faces(
     ensures { λ _. ⌜ FacesWritten s (now (labels .entry)) number (now (work .entry)) (now (references .entry)) (now (contours .entry)) (now (faces .entry)) (now (work .exit)) (now (references .exit)) (now (contours .exit)) (now (faces .exit)) ⌝ }
 {
     if number == 0 {
-        assemble::assemble(
+        let _ = assemble::assemble(
             s,
             labels,
             nodes,
@@ -234,6 +261,63 @@ fn write_faces(
             faces,
         );
     }
+}
+
+// AT ONCE, where the stores have room: the writing counts.
+
+// Nodes, segments and points.
+fn graph_at_once(
+    s: Size,
+    labels: &[u32],
+    work: &mut [u32],
+    nodes: &mut [u32],
+    segments: &mut [u32],
+    points: &mut [u32],
+) -> Answer
+    requires { ⌜ firstHit (mapChecks (mapOf s (now labels)) (now work)) ≡ 0 ⌝ ∗ ⌜ firstHit (graphChecks (graphList (mapOf s (now labels))) (now nodes) (now segments) (now points)) ≡ 0 ⌝ }
+    ensures { λ r. ⌜ outcome r (now (work .exit) ∷ now (nodes .exit) ∷ now (segments .exit) ∷ now (points .exit) ∷ []) ≡ graphOf (mapOf s (now (labels .entry))) (now (work .entry)) (now (nodes .entry)) (now (segments .entry)) (now (points .entry)) ⌝ }
+{
+    let c = graph::extract(s, labels, work, nodes, segments, points);
+    clear(s, work);
+    answer_graph(c)
+}
+
+// The whole cut list.
+fn whole_at_once(
+    s: Size,
+    labels: &[u32],
+    work: &mut [u32],
+    nodes: &mut [u32],
+    segments: &mut [u32],
+    points: &mut [u32],
+    references: &mut [u32],
+    contours: &mut [u32],
+    faces: &mut [u32],
+) -> Answer
+    requires { ⌜ firstHit (mapChecks (mapOf s (now labels)) (now work)) ≡ 0 ⌝ ∗ ⌜ firstHit (graphChecks (cutList (mapOf s (now labels))) (now nodes) (now segments) (now points) ++ faceChecks (cutList (mapOf s (now labels))) (now references) (now contours) (now faces)) ≡ 0 ⌝ }
+    ensures { λ r. ⌜ outcome r (now (work .exit) ∷ now (nodes .exit) ∷ now (segments .exit) ∷ now (points .exit) ∷ now (references .exit) ∷ now (contours .exit) ∷ now (faces .exit) ∷ []) ≡ wholeOf (mapOf s (now (labels .entry))) (now (work .entry)) (now (nodes .entry)) (now (segments .entry)) (now (points .entry)) (now (references .entry)) (now (contours .entry)) (now (faces .entry)) ⌝ }
+{
+    let c = graph::extract(s, labels, work, nodes, segments, points);
+    let painted = face::islands::islands(s, labels, work);
+    let done = assemble::assemble(
+        s,
+        labels,
+        nodes,
+        segments,
+        points,
+        c.segments,
+        work,
+        references,
+        contours,
+        faces,
+    );
+    clear(s, work);
+    let f = face::Counts {
+        references: done.references as u32,
+        contours: done.contours as u32,
+        faces: painted,
+    };
+    answer_whole(c, f)
 }
 
 // THE CALLS
@@ -267,6 +351,9 @@ pub fn graph(
     if early != 0 {
         return refuse(early);
     }
+    if check_graph(most(s), nodes.len(), segments.len(), points.len()) == 0 {
+        return graph_at_once(s, labels, work, nodes, segments, points);
+    }
     let c = count_graph(s, labels, work);
     let mut a = answer_graph(c);
     let number = check_graph(a, nodes.len(), segments.len(), points.len());
@@ -293,6 +380,28 @@ pub fn whole(
     let early = check_map(s, labels, work);
     if early != 0 {
         return refuse(early);
+    }
+    let lacks = check_all(
+        most(s),
+        nodes.len(),
+        segments.len(),
+        points.len(),
+        references.len(),
+        contours.len(),
+        faces.len(),
+    );
+    if lacks == 0 {
+        return whole_at_once(
+            s,
+            labels,
+            work,
+            nodes,
+            segments,
+            points,
+            references,
+            contours,
+            faces,
+        );
     }
     let c = count_graph(s, labels, work);
     let mut a = count_faces(s, labels, work, c);

@@ -26,7 +26,8 @@ returns c =
     let at-trace = c .before .before .before .before .before .before .before .before in
     let at-if1 = at-trace .before .before .before .before .before in
     let start = at-if1 .before .before .before .before .before .before in
-    graph-written (at-if1 .if1 .taken) (start .pre .1 .1) (at-trace .trace .ensures)
+    let e = at-trace .trace .ensures in
+    graph-written (at-if1 .if1 .taken) (start .pre .1 .1) e (e .kept)
 
 returns-2 : tie.Need-returns-2
 returns-2 c = graph-left (c .if1 .left)
