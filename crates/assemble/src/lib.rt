@@ -528,8 +528,8 @@ fn write_faces(
 }
 
 // The faces of the graph in its stores, n segments: references, contours and faces, from the front of each store, and how many of the
-// first two. The plane 5 of the work store holds the first pixel of each pixel's island; the others are used, whatever they hold: 0 to 3 for the trail, 4 for the heads
-// of the islands, 6 for their list, 7 for the contours, and then for the sort.
+// first two. The plane 5 of the work store holds the first pixel of each pixel's island; the others are used, whatever they hold: 0 to 3
+// for the trail, 4 for the heads of the islands, 6 for their list, 7 for the contours, and then for the sort.
 pub fn assemble(
     s: Size,
     labels: &[u32],
