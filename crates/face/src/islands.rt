@@ -38,13 +38,16 @@ fn root(labels: &[u32], work: &mut [u32], m: Plan, p: usize, q: usize) -> usize
     }
 }
 
-// p and q, which have one label, into one tree.
+// p and q, which have one label, into one tree, where they do not name the same pixel already.
 fn join(labels: &[u32], work: &mut [u32], m: Plan, p: usize, q: usize)
     requires leaf { ⌜ Leaf m (suc p) (now labels) (now work) p ⌝ }
     requires before { ⌜ Before m p q ⌝ }
     requires same { ⌜ getD (now labels) q 0 ≡ getD (now labels) p 0 ⌝ }
     ensures { λ _. ⌜ Met m p (now (labels .entry)) (now (work .entry)) (now (work .exit)) (λ r. r ≡ q) ⌝ }
 {
+    if store::at(work, m.ids + p) == store::at(work, m.ids + q) {
+        return;
+    }
     let a = root(labels, work, m, p, p);
     let b = root(labels, work, m, p, q);
     if a < b {

@@ -11,7 +11,7 @@ use Rattle.rules.specs.Picture.{picture}
 use Rattle.rules.proofs.Islands.Joined.{Step, here, step}
 use Rattle.rules.proofs.Islands.Pixels.{labelOf-is, column-in, left-column, left-row, right-column, right-row, below-row, same-pixel}
 use Rattle.face.specs.declared.islands.Plan.{Plan}
-use Rattle.face.specs.Islands.{area, view, Tied, Grown, Leaf, Rooted, Met, Before, Over, LeftOf, RightOf, Above, Hand}
+use Rattle.face.specs.Islands.{area, view, number, Tied, Grown, Leaf, Rooted, Met, Before, Over, LeftOf, RightOf, Above, Hand}
 use Rattle.face.proofs.islands.Trees.{tied-to, tied-grown, grown-none, grown-then, below-first, below-second}
 
 -- PLACES
@@ -200,6 +200,14 @@ module _ {m : Plan} {x p : ℕ} {ls work : List ℕ} (g : Hand m x p ls work) wh
 -- JOINING p and q, by their roots a and b
 
 module _ {m : Plan} {p q : ℕ} {ls work : List ℕ} (l : Leaf m (suc p) ls work p) (h : Before m p q) (e : getD ls q 0 ≡ getD ls p 0) where
+  -- they name the same
+  pub joined-already : number m work p ≡ number m work q → Met m p ls work work (λ r. r ≡ q)
+  joined-already z =
+      met-one (
+        grown-none (l .forest),
+        record { same = λ f c. sym (c p (l .within) (l .inside)) ∙ ap f z ∙ c q (omega (arith, h .earlier)) (λ o. l .inside (step-before l h e .same ∙ o)) },
+      )
+
   module _ {a : ℕ} {work₁ : List ℕ} (ra : Rooted m (suc p) ls p work a work₁) where
     pub second-leaf : Leaf m (suc p) ls work₁ q
     second-leaf = record { forest = ra .grown .forest; within = omega (arith, h .earlier); inside = λ z. l .inside (step-before l h e .same ∙ z) }

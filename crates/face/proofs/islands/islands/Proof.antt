@@ -26,7 +26,10 @@ same-length : tie.Need-same-length
 same-length c = search needs
 
 returns : tie.Need-returns
-returns c = rw (c .before .before .before .before .before .before .before .before .plane .ensures .0) at (numbered (c .before .before .before .before .before .before .link-all .ensures) (c .before .before .settle-all .ensures))
+returns c =
+    let at-link-all = c .before .before .before .before .before .before in
+    let at-plane = at-link-all .before .before in
+    rw (at-plane .plane .ensures .0) at (numbered (at-link-all .link-all .ensures) (c .before .before .settle-all .ensures))
 
 pub islands-spec : {M : Type 1} → statement M
 islands-spec =

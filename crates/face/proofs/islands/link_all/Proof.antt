@@ -19,25 +19,42 @@ loop-holds : tie.Need-loop-holds Inv-loop μ-loop
 loop-holds c = linking-start (c .before .before .pre)
 
 link-requires : tie.Need-link-requires Inv-loop μ-loop
-link-requires c κs = let t = c .before .before .loop .inv in (t .links .linked, (omega (arith, c .before .loop-test .taken, c .before .before .before .before .before .pre .labels), t .column (omega (arith, c .before .loop-test .taken, c .before .before .before .before .before .pre .labels))))
+link-requires c κs =
+    let start = c .before .before .before .before .before in
+    let t = c .before .before .loop .inv in (t .links .linked, (omega (arith, c .before .loop-test .taken, start .pre .labels), t .column (omega (arith, c .before .loop-test .taken, start .pre .labels))))
 
 next-column-requires : tie.Need-next-column-requires Inv-loop μ-loop
-next-column-requires c κs = column-inside (c .before .before .before .before .before .loop .inv) (omega (arith, c .before .before .before .before .loop-test .taken, c .before .before .before .before .before .before .before .before .pre .labels))
+next-column-requires c κs =
+    let at-loop-test = c .before .before .before .before in
+    let at-loop = at-loop-test .before in
+    let start = at-loop .before .before .before in
+    column-inside (at-loop .loop .inv) (omega (arith, at-loop-test .loop-test .taken, start .pre .labels))
 
 add-p : tie.Need-add-p Inv-loop μ-loop
-add-p c = omega (arith, c .before .before .before .before .before .loop-test .taken, c .before .before .before .before .before .before .before .before .before .good .0)
+add-p c =
+    let at-loop-test = c .before .before .before .before .before in
+    let start = at-loop-test .before .before .before .before in
+    omega (arith, at-loop-test .loop-test .taken, start .good .0)
 
 loop-less : tie.Need-loop-less Inv-loop μ-loop
-loop-less c = omega (arith, c .before .before .before .before .before .loop-test .taken)
+loop-less c =
+    let at-loop-test = c .before .before .before .before .before in
+    omega (arith, at-loop-test .loop-test .taken)
 
 loop-again : tie.Need-loop-again Inv-loop μ-loop
-loop-again c = let one : c .before .before .before .before .before .before .loop .p + 1 ≡ suc (c .before .before .before .before .before .before .loop .p) = omega arith in rw one (linking-next (c .before .before .before .before .before .before .loop .inv) (omega (arith, c .before .before .before .before .before .loop-test .taken, c .before .before .before .before .before .before .before .before .before .pre .labels)) (c .before .before .before .link .ensures) (c .next-column .ensures))
+loop-again c =
+    let at-loop-test = c .before .before .before .before .before in
+    let at-loop = at-loop-test .before in
+    let start = at-loop .before .before .before in
+    let one : at-loop .loop .p + 1 ≡ suc (at-loop .loop .p) = omega arith in rw one (linking-next (at-loop .loop .inv) (omega (arith, at-loop-test .loop-test .taken, start .pre .labels)) (c .before .before .before .link .ensures) (c .next-column .ensures))
 
 same-length : tie.Need-same-length Inv-loop μ-loop
 same-length c = c .before .loop .inv .links .kept .long
 
 returns : tie.Need-returns Inv-loop μ-loop
-returns c = let t = c .before .loop .inv in let e : c .before .loop .p ≡ area (c .before .before .before .before .args .m) = omega (arith, c .loop-test .left, t .within, c .before .before .before .before .pre .labels) in rw e at (t .links)
+returns c =
+    let start = c .before .before .before .before in
+    let t = c .before .loop .inv in let e : c .before .loop .p ≡ area (start .args .m) = omega (arith, c .loop-test .left, t .within, start .pre .labels) in rw e at (t .links)
 
 pub link-all-spec : {M : Type 1} → statement M
 link-all-spec =

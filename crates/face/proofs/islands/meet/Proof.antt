@@ -21,7 +21,9 @@ returns : tie.Need-returns
 returns c = search needs
 
 returns-2 : tie.Need-returns-2
-returns-2 c = met-other (c .before .before .before .before .before .pre .0) (λ z. c .if1 .left (c .before .before .at .ensures ∙ z ∙ sym (c .before .at2 .ensures)))
+returns-2 c =
+    let start = c .before .before .before .before .before in
+    met-other (start .pre .0) (λ z. c .if1 .left (c .before .before .at .ensures ∙ z ∙ sym (c .before .at2 .ensures)))
 
 pub meet-spec : {M : Type 1} → statement M
 meet-spec =

@@ -6,7 +6,9 @@ use Rattle.face.proofs.islands.meet_above.Statement.{statement}
 use Rattle.face.proofs.islands.meet_above.Tie as tie
 
 returns : tie.Need-returns
-returns c = above-none (c .before .before .before .before .pre) (c .if1 .taken)
+returns c =
+    let start = c .before .before .before .before in
+    above-none (start .pre) (c .if1 .taken)
 
 at-requires : tie.Need-at-requires
 at-requires c κs = search needs
@@ -15,25 +17,47 @@ at-requires-2 : tie.Need-at-requires-2
 at-requires-2 c κs = search needs
 
 join-requires : tie.Need-join-requires
-join-requires c κs = (c .before .before .before .before .before .before .before .before .before .pre .leaf, (north-before (c .before .before .before .before .before .before .before .before .before .pre) (c .before .before .before .before .before .if1 .left), sym (c .before .before .before .at .ensures) ∙ c .before .if2 .taken ∙ c .before .before .at2 .ensures))
+join-requires c κs =
+    let at-if1 = c .before .before .before .before .before in
+    let start = at-if1 .before .before .before .before in
+    (start .pre .leaf, (north-before (start .pre) (at-if1 .if1 .left), sym (c .before .before .before .at .ensures) ∙ c .before .if2 .taken ∙ c .before .before .at2 .ensures))
 
 same-length : tie.Need-same-length
 same-length c = search needs
 
 returns-2 : tie.Need-returns-2
-returns-2 c = above-equal (c .before .before .before .before .before .before .before .before .before .before .before .before .pre) (c .before .before .before .before .before .before .before .before .if1 .left) (sym (c .before .before .before .before .before .before .at .ensures) ∙ c .before .before .before .before .if2 .taken ∙ c .before .before .before .before .before .at2 .ensures) (c .before .before .join .ensures)
+returns-2 c =
+    let at-if2 = c .before .before .before .before in
+    let at-at2 = at-if2 .before in
+    let at-at = at-at2 .before in
+    let at-if1 = at-at .before .before in
+    let start = at-if1 .before .before .before .before in
+    above-equal (start .pre) (at-if1 .if1 .left) (sym (at-at .at .ensures) ∙ at-if2 .if2 .taken ∙ at-at2 .at2 .ensures) (c .before .before .join .ensures)
 
 meet-left-requires : tie.Need-meet-left-requires
-meet-left-requires c κs = (c .before .before .before .before .before .before .before .before .before .pre .leaf, north-over (c .before .before .before .before .before .before .before .before .before .pre) (c .before .before .before .before .before .if1 .left))
+meet-left-requires c κs =
+    let at-if1 = c .before .before .before .before .before in
+    let start = at-if1 .before .before .before .before in
+    (start .pre .leaf, north-over (start .pre) (at-if1 .if1 .left))
 
 meet-right-requires : tie.Need-meet-right-requires
-meet-right-requires c κs = (met-leaf (c .before .before .before .before .before .before .before .before .before .before .before .before .before .pre .leaf) (c .before .before .before .meet-left .ensures), (north-over (c .before .before .before .before .before .before .before .before .before .before .before .before .before .pre) (c .before .before .before .before .before .before .before .before .before .if1 .left), north-above (c .before .before .before .before .before .before .before .before .before .before .before .before .before .pre) (c .before .before .before .before .before .before .before .before .before .if1 .left)))
+meet-right-requires c κs =
+    let at-if1 = c .before .before .before .before .before .before .before .before .before in
+    let start = at-if1 .before .before .before .before in
+    (met-leaf (start .pre .leaf) (c .before .before .before .meet-left .ensures), (north-over (start .pre) (at-if1 .if1 .left), north-above (start .pre) (at-if1 .if1 .left)))
 
 same-length-2 : tie.Need-same-length-2
 same-length-2 c = search needs
 
 returns-3 : tie.Need-returns-3
-returns-3 c = above-apart (c .before .before .before .before .before .before .before .before .before .before .before .before .before .before .before .before .pre) (c .before .before .before .before .before .before .before .before .before .before .before .before .if1 .left) (λ z. c .before .before .before .before .before .before .before .before .if2 .left (c .before .before .before .before .before .before .before .before .before .before .at .ensures ∙ z ∙ sym (c .before .before .before .before .before .before .before .before .before .at2 .ensures))) (c .before .before .before .before .before .before .meet-left .ensures) (c .before .before .meet-right .ensures)
+returns-3 c =
+    let at-meet-left = c .before .before .before .before .before .before in
+    let at-if2 = at-meet-left .before .before in
+    let at-at2 = at-if2 .before in
+    let at-at = at-at2 .before in
+    let at-if1 = at-at .before .before in
+    let start = at-if1 .before .before .before .before in
+    above-apart (start .pre) (at-if1 .if1 .left) (λ z. at-if2 .if2 .left (at-at .at .ensures ∙ z ∙ sym (at-at2 .at2 .ensures))) (at-meet-left .meet-left .ensures) (c .before .before .meet-right .ensures)
 
 pub meet-above-spec : {M : Type 1} → statement M
 meet-above-spec =

@@ -9,7 +9,9 @@ at-requires : tie.Need-at-requires
 at-requires c κs = search needs
 
 returns : tie.Need-returns
-returns c = passed (c .before .before .before .before .pre) _ (c .before .at .ensures) (c .if1 .taken)
+returns c =
+    let start = c .before .before .before .before in
+    passed (start .pre) _ (c .before .at .ensures) (c .if1 .taken)
 
 add-at : tie.Need-add-at
 add-at c = search needs
@@ -24,7 +26,11 @@ add-at-2 : tie.Need-add-at-2
 add-at-2 c = search needs
 
 at-requires-3 : tie.Need-at-requires-3
-at-requires-3 c κs = let u = c .before .before .before .before .before .before .before .before .before .pre in omega (arith, u .down (settle-inside u _ (c .before .before .before .before .before .before .at .ensures) (c .before .before .before .before .before .if1 .left)), c .before .before .at2 .ensures, u .within, u .sizes .room)
+at-requires-3 c κs =
+    let at-if1 = c .before .before .before .before .before in
+    let at-at = at-if1 .before in
+    let start = at-at .before .before .before in
+    let u = start .pre in omega (arith, u .down (settle-inside u _ (at-at .at .ensures) (at-if1 .if1 .left)), c .before .before .at2 .ensures, u .within, u .sizes .room)
 
 add-work : tie.Need-add-work
 add-work c = search needs
@@ -42,7 +48,12 @@ same-length : tie.Need-same-length
 same-length c = search needs
 
 returns-2 : tie.Need-returns-2
-returns-2 c = taken (c .before .before .before .before .before .before .before .before .before .before .before .before .pre) _ (c .before .before .before .before .before .before .before .before .before .at .ensures) (c .before .before .before .before .before .before .before .before .if1 .left) (c .before .before .before .before .before .at2 .ensures) (c .before .before .at3 .ensures) (c .opening .ensures)
+returns-2 c =
+    let at-at2 = c .before .before .before .before .before in
+    let at-if1 = at-at2 .before .before .before in
+    let at-at = at-if1 .before in
+    let start = at-at .before .before .before in
+    taken (start .pre) _ (at-at .at .ensures) (at-if1 .if1 .left) (at-at2 .at2 .ensures) (c .before .before .at3 .ensures) (c .opening .ensures)
 
 pub settle-spec : {M : Type 1} → statement M
 settle-spec =

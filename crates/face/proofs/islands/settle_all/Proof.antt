@@ -18,19 +18,34 @@ loop-holds : tie.Need-loop-holds Inv-loop μ-loop
 loop-holds c = settling-start (c .before .before .pre .0) (c .before .before .pre .1)
 
 settle-requires : tie.Need-settle-requires Inv-loop μ-loop
-settle-requires c κs = let s = c .before .before .before .before .before in settling-ready (s .pre .0) (s .pre .1) (c .before .before .loop .inv) (omega (arith, c .before .loop-test .taken, s .pre .0 .forest .sizes .labels))
+settle-requires c κs =
+    let at-before = c .before .before .before .before in
+    let s = c .before .before .before .before .before in settling-ready (s .pre .0) (s .pre .1) (c .before .before .loop .inv) (omega (arith, c .before .loop-test .taken, s .pre .0 .forest .sizes .labels))
 
 add-count : tie.Need-add-count Inv-loop μ-loop
-add-count c = let s = c .before .before .before .before .before .before .before .before in omega (arith, settling-room (s .pre .0) (s .pre .1) (c .before .before .before .before .before .loop .inv) (omega (arith, c .before .before .before .before .loop-test .taken, s .pre .0 .forest .sizes .labels)) (c .before .before .settle .ensures))
+add-count c =
+    let at-loop-test = c .before .before .before .before in
+    let at-loop = at-loop-test .before in
+    let at-before = at-loop .before .before in
+    let s = c .before .before .before .before .before .before .before .before in omega (arith, settling-room (s .pre .0) (s .pre .1) (at-loop .loop .inv) (omega (arith, at-loop-test .loop-test .taken, s .pre .0 .forest .sizes .labels)) (c .before .before .settle .ensures))
 
 add-q : tie.Need-add-q Inv-loop μ-loop
-add-q c = omega (arith, c .before .before .before .before .loop-test .taken, c .before .before .before .before .before .before .before .before .good .0)
+add-q c =
+    let at-loop-test = c .before .before .before .before in
+    let start = at-loop-test .before .before .before .before in
+    omega (arith, at-loop-test .loop-test .taken, start .good .0)
 
 loop-less : tie.Need-loop-less Inv-loop μ-loop
-loop-less c = omega (arith, c .before .before .before .before .loop-test .taken)
+loop-less c =
+    let at-loop-test = c .before .before .before .before in
+    omega (arith, at-loop-test .loop-test .taken)
 
 loop-again : tie.Need-loop-again Inv-loop μ-loop
-loop-again c = let s = c .before .before .before .before .before .before .before .before in let one : c .before .before .before .before .before .loop .q + 1 ≡ suc (c .before .before .before .before .before .loop .q) = omega arith in rw one (settling-next (s .pre .0) (s .pre .1) (c .before .before .before .before .before .loop .inv) (omega (arith, c .before .before .before .before .loop-test .taken, s .pre .0 .forest .sizes .labels)) (c .before .before .settle .ensures))
+loop-again c =
+    let at-loop-test = c .before .before .before .before in
+    let at-loop = at-loop-test .before in
+    let at-before = at-loop .before .before in
+    let s = c .before .before .before .before .before .before .before .before in let one : at-loop .loop .q + 1 ≡ suc (at-loop .loop .q) = omega arith in rw one (settling-next (s .pre .0) (s .pre .1) (at-loop .loop .inv) (omega (arith, at-loop-test .loop-test .taken, s .pre .0 .forest .sizes .labels)) (c .before .before .settle .ensures))
 
 same-length : tie.Need-same-length Inv-loop μ-loop
 same-length c = c .before .loop .inv .settled .kept .long
