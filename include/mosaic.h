@@ -51,7 +51,9 @@
  * hang together, also across a corner. A contour has its region on the left; y grows downwards. References lie contour after
  * contour, contours face after face.
  *
- * A map of w x h pixels has at most k = 2wh + w + h cracks (unit cuts), and so no more than k segments, 2k points and 2k references.
+ * A map of w x h pixels has at most k = 2wh + w + h cracks (unit cuts), and so no more than k segments, 2k points and 2k references;
+ * no more than (w+1)(h+1) nodes and as many contours; and no more than wh faces. Where the stores lent to mosaic_graph or mosaic_whole
+ * have room for that many, nothing is counted first and the call is faster. Words that no record reaches are not touched.
  */
 #ifndef MOSAIC_H
 #define MOSAIC_H
