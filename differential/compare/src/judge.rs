@@ -127,6 +127,7 @@ impl Judge {
         self.workers[self.turn].ask(case, setup, lens);
         if large {
             self.finish();
+            self.workers[0].library.release();
         }
     }
 

@@ -4,7 +4,7 @@ use std::error::Error;
 use std::ffi::{c_char, c_int, c_uint, c_void};
 use std::fs::File;
 use std::io::{self, Read, Write};
-use std::os::fd::FromRawFd;
+use std::os::fd::{AsRawFd, FromRawFd};
 use std::process::{exit, Child, Command, Stdio};
 
 extern "C" {
@@ -28,6 +28,7 @@ pub const ROW: usize = 32;
 pub const ANSWER: usize = 20;
 
 pub struct Library {
+    file: File,
     words: *mut u32,
     child: Child,
 }
@@ -39,17 +40,24 @@ impl Library {
         let (file, words) = shared(WORDS)?;
         let child = Command::new(program)
             .args(before)
-            .args([file.to_string(), WORDS.to_string()])
+            .args([file.as_raw_fd().to_string(), WORDS.to_string()])
             .stdin(Stdio::piped())
             .stdout(Stdio::piped())
             .spawn()?;
-        Ok(Library { words, child })
+        Ok(Library { file, words, child })
     }
 
     /// The shared words, while the library is not at work.
     pub fn words(&mut self) -> &mut [u32] {
         // SAFETY: that many words are mapped, and the library's process writes to them only between `run` and `wait`.
         unsafe { std::slice::from_raw_parts_mut(self.words, WORDS) }
+    }
+
+    /// Gives the memory of the shared words back, while the library is not at work.
+    pub fn release(&mut self) {
+        let bytes = self.file.set_len(0);
+        let again = bytes.and_then(|()| self.file.set_len(4 * WORDS as u64));
+        self.must(Some(again));
     }
 
     /// Has the library make `count` calls, whose rows stand at the start of the shared words.
@@ -84,14 +92,14 @@ impl Drop for Library {
 }
 
 /// An open file of that many words with no place on a disk, and its words.
-fn shared(words: usize) -> Result<(c_int, *mut u32), Box<dyn Error>> {
-    // SAFETY: C's functions by their manual pages; the file is left open, for the child inherits it, and nothing is ever unmapped.
+fn shared(words: usize) -> Result<(File, *mut u32), Box<dyn Error>> {
+    // SAFETY: C's functions by their manual pages. The child inherits the file, and nothing is ever unmapped.
     unsafe {
         let number = memfd_create(c"mosaic".as_ptr(), 0);
         if number < 0 {
             return Err(io::Error::last_os_error().into());
         }
-        let file = std::mem::ManuallyDrop::new(File::from_raw_fd(number));
+        let file = File::from_raw_fd(number);
         file.set_len(4 * words as u64)?;
         let at = mmap(
             std::ptr::null_mut(),
@@ -104,6 +112,6 @@ fn shared(words: usize) -> Result<(c_int, *mut u32), Box<dyn Error>> {
         if at as isize == -1 {
             return Err(io::Error::last_os_error().into());
         }
-        Ok((number, at.cast()))
+        Ok((file, at.cast()))
     }
 }
