@@ -30,6 +30,8 @@ pub struct Extent {
     small: u32,
     large: u32,
     sides: &'static [u32],
+    /// The largest side of the shapes in which nearly every corner is a node.
+    dense: u32,
 }
 
 /// For planted faults: the smallest maps show them.
@@ -42,6 +44,7 @@ pub const SMALLEST: Extent = Extent {
     small: 0,
     large: 0,
     sides: &[],
+    dense: 0,
 };
 pub const QUICK: Extent = Extent {
     computed: 210,
@@ -52,6 +55,7 @@ pub const QUICK: Extent = Extent {
     small: 1_000,
     large: 2,
     sides: &[50],
+    dense: 50,
 };
 pub const FULL: Extent = Extent {
     computed: 1000,
@@ -62,6 +66,12 @@ pub const FULL: Extent = Extent {
     small: 100_000,
     large: 200,
     sides: &[50, 250, 1024, 4096],
+    dense: 4096,
+};
+/// Under an emulator the largest dense shapes would take longer than all the rest.
+pub const EMULATED: Extent = Extent {
+    dense: 2048,
+    ..FULL
 };
 
 /// Compares all that the extent asks for: the definitions in the repository at `root`, and the library that `command` runs.
@@ -90,7 +100,7 @@ pub fn run(extent: &Extent, root: &Path, command: &[String]) -> Result<ExitCode,
     run.random_maps(extent.small, 12, Depth::All);
     run.random_maps(extent.large, 300, Depth::Some);
     for &side in extent.sides {
-        run.shapes(side);
+        run.shapes(side, extent.dense);
     }
     Ok(run.verdict(&computed))
 }
@@ -201,7 +211,7 @@ impl Comparison {
         self.say(&what);
     }
 
-    fn shapes(&mut self, side: u32) {
+    fn shapes(&mut self, side: u32, dense: u32) {
         let depth = match side {
             0..=100 => Depth::All,
             101..=300 => Depth::Some,
@@ -209,6 +219,11 @@ impl Comparison {
             _ => Depth::One,
         };
         for name in shapes::NAMES {
+            let side = if shapes::DENSE.contains(&name) {
+                side.min(dense)
+            } else {
+                side
+            };
             self.judge.judge(&shapes::shape(name, side), depth);
             self.say(&format!("{name}, {side} by {side}"));
         }

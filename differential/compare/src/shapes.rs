@@ -16,6 +16,9 @@ pub const NAMES: [&str; 8] = [
     "diagonal-touch",
 ];
 
+/// Those in which nearly every corner is a node.
+pub const DENSE: [&str; 3] = ["noise", "checker", "all-distinct"];
+
 /// The shape of this name, `side` by `side`.
 pub fn shape(name: &str, side: u32) -> Map {
     let mut random = Random(u64::from(side));
