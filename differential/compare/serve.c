@@ -10,26 +10,17 @@
 #include <sys/mman.h>
 #include <unistd.h>
 
-enum { ROW = 32, ANSWER = 20 };
+#include "mosaic.h"
 
-void mosaic_size(uint32_t width, uint32_t height, uint32_t paints,
-                 const uint32_t *labels, size_t labels_len, uint32_t *work, size_t work_len, uint32_t *answer);
-void mosaic_graph(uint32_t width, uint32_t height, uint32_t paints,
-                  const uint32_t *labels, size_t labels_len, uint32_t *work, size_t work_len,
-                  uint32_t *nodes, size_t nodes_len, uint32_t *segments, size_t segments_len,
-                  uint32_t *points, size_t points_len, uint32_t *answer);
-void mosaic_whole(uint32_t width, uint32_t height, uint32_t paints,
-                  const uint32_t *labels, size_t labels_len, uint32_t *work, size_t work_len,
-                  uint32_t *nodes, size_t nodes_len, uint32_t *segments, size_t segments_len,
-                  uint32_t *points, size_t points_len, uint32_t *references, size_t references_len,
-                  uint32_t *contours, size_t contours_len, uint32_t *faces, size_t faces_len, uint32_t *answer);
+enum { ROW = 32, ANSWER = 20 };
 
 /* The k-th lent slice of a row, as the library takes it. */
 #define SLICE(k) words + row[4 + 2 * (k)], row[5 + 2 * (k)]
 
 static void make(uint32_t *words, uint32_t *row)
 {
-    uint32_t w = row[1], h = row[2], paints = row[3], *answer = row + ANSWER;
+    uint32_t w = row[1], h = row[2], paints = row[3];
+    mosaic_answer *answer = (mosaic_answer *)(row + ANSWER);
     switch (row[0]) {
     case 0:
         mosaic_size(w, h, paints, SLICE(0), SLICE(1), answer);
@@ -43,7 +34,7 @@ static void make(uint32_t *words, uint32_t *row)
 }
 
 #ifdef FAULT
-/* A planted fault after a call that answered 0 or, for the last one, refused: the comparison must see each. */
+/* A planted fault, after calls that answered 0 or, for the last two, refused: the comparison must see each. */
 static void spoil(uint32_t *words, uint32_t *row)
 {
     uint32_t *answer = row + ANSWER, *work = words + row[6], *faces = words + row[18];
