@@ -10,6 +10,10 @@
  *
  * Link the archive that `rt staticlib mosaic` writes, target/staticlib/libmosaic.a (x86-64 Linux). It needs memset and no more of C.
  *
+ * MODE. Every call that looks at a map takes a mode first. MOSAIC_PLAIN reads each label as it is: two unpainted labels side by side
+ * have a cut between them, through scrap. MOSAIC_NO_WASTE (any value but 0) reads every unpainted label as MOSAIC_OUTSIDE, so that no
+ * cut goes through waste: the cut list is that of the map with those labels replaced.
+ *
  * STORES. All memory is lent by the caller: a store is a pointer to 32-bit words, and then its length IN WORDS (not in bytes, and
  * not in records). A store holds its length divided by its record's words, rounded down. What a caller owes, and nothing checks:
  *
@@ -65,9 +69,13 @@
 extern "C" {
 #endif
 
+#define MOSAIC_VERSION 20000 /* 10000 x major + 100 x minor + patch: see mosaic_version */
+
 #define MOSAIC_OUTSIDE UINT32_C(4294967295) /* the label of no piece */
 #define MOSAIC_NONE UINT32_C(4294967295)    /* no node, no reference */
 #define MOSAIC_LONGEST_SIDE UINT32_C(16384)
+
+enum mosaic_mode { MOSAIC_PLAIN = 0, MOSAIC_NO_WASTE = 1 };
 
 enum mosaic_number {
     MOSAIC_DONE = 0,
@@ -136,14 +144,17 @@ static inline size_t mosaic_work_words(uint32_t width, uint32_t height) {
 static inline uint32_t mosaic_segment_of(uint32_t reference) { return reference / 2; }
 static inline int mosaic_reversed(uint32_t reference) { return (int)(reference % 2); }
 
+/* The version of the library that is linked; it goes with a header whose MOSAIC_VERSION is the same. */
+uint32_t mosaic_version(void);
+
 /* Counts the cut list. Changes the work store and the answer. */
-void mosaic_size(uint32_t width, uint32_t height, uint32_t paints,
+void mosaic_size(uint32_t mode, uint32_t width, uint32_t height, uint32_t paints,
                  const uint32_t *labels, size_t labels_len,
                  uint32_t *work, size_t work_len,
                  mosaic_answer *answer);
 
 /* Writes nodes, segments and points. */
-void mosaic_graph(uint32_t width, uint32_t height, uint32_t paints,
+void mosaic_graph(uint32_t mode, uint32_t width, uint32_t height, uint32_t paints,
                   const uint32_t *labels, size_t labels_len,
                   uint32_t *work, size_t work_len,
                   uint32_t *nodes, size_t nodes_len,
@@ -152,7 +163,7 @@ void mosaic_graph(uint32_t width, uint32_t height, uint32_t paints,
                   mosaic_answer *answer);
 
 /* Writes the whole cut list. */
-void mosaic_whole(uint32_t width, uint32_t height, uint32_t paints,
+void mosaic_whole(uint32_t mode, uint32_t width, uint32_t height, uint32_t paints,
                   const uint32_t *labels, size_t labels_len,
                   uint32_t *work, size_t work_len,
                   uint32_t *nodes, size_t nodes_len,

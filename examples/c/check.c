@@ -73,12 +73,12 @@ static void run(const char *what, call which, map m, const size_t len[STORES], c
     }
     memset(&answer, 0x5A, sizeof answer);
     if (which == SIZE) {
-        mosaic_size(m.width, m.height, m.paints, m.labels, m.count, lent[WORK], len[WORK], &answer);
+        mosaic_size(MOSAIC_PLAIN, m.width, m.height, m.paints, m.labels, m.count, lent[WORK], len[WORK], &answer);
     } else if (which == GRAPH) {
-        mosaic_graph(m.width, m.height, m.paints, m.labels, m.count, lent[WORK], len[WORK], lent[NODES], len[NODES],
+        mosaic_graph(MOSAIC_PLAIN, m.width, m.height, m.paints, m.labels, m.count, lent[WORK], len[WORK], lent[NODES], len[NODES],
                      lent[SEGMENTS], len[SEGMENTS], lent[POINTS], len[POINTS], &answer);
     } else {
-        mosaic_whole(m.width, m.height, m.paints, m.labels, m.count, lent[WORK], len[WORK], lent[NODES], len[NODES],
+        mosaic_whole(MOSAIC_PLAIN, m.width, m.height, m.paints, m.labels, m.count, lent[WORK], len[WORK], lent[NODES], len[NODES],
                      lent[SEGMENTS], len[SEGMENTS], lent[POINTS], len[POINTS], lent[REFERENCES], len[REFERENCES],
                      lent[CONTOURS], len[CONTOURS], lent[FACES], len[FACES], &answer);
     }
@@ -210,7 +210,7 @@ static void checker(uint32_t n) {
     mosaic_answer a;
     size_t len[STORES] = {mosaic_work_words(n, n), 0, 0, 0, 0, 0, 0};
     uint32_t *work = blank(len[WORK]);
-    mosaic_size(n, n, 2, labels, pixels, work, len[WORK], &a);
+    mosaic_size(MOSAIC_PLAIN, n, n, 2, labels, pixels, work, len[WORK], &a);
     free(work);
     expect(a.number == 0, "checker: number", a.number, 0);
     expect(a.nodes == (n + 1) * (n + 1) - 4, "checker: nodes", a.nodes, (n + 1) * (n + 1) - 4);

@@ -85,7 +85,7 @@ static uint32_t print_cut_list(uint32_t width, uint32_t height, uint32_t paints,
     size_t work_len = mosaic_work_words(width, height);
     uint32_t *work = lend(work_len, 1);
     mosaic_answer a;
-    mosaic_size(width, height, paints, labels, label_count, work, work_len, &a);
+    mosaic_size(MOSAIC_PLAIN, width, height, paints, labels, label_count, work, work_len, &a);
     if (a.number != MOSAIC_DONE) {
         free(work);
         return a.number;
@@ -97,7 +97,7 @@ static uint32_t print_cut_list(uint32_t width, uint32_t height, uint32_t paints,
     uint32_t *references = lend(a.references, 1);
     mosaic_contour *contours = (mosaic_contour *)lend(a.contours, MOSAIC_WORDS(mosaic_contour));
     mosaic_face *faces = (mosaic_face *)lend(a.faces, MOSAIC_WORDS(mosaic_face));
-    mosaic_whole(width, height, paints, labels, label_count, work, work_len,
+    mosaic_whole(MOSAIC_PLAIN, width, height, paints, labels, label_count, work, work_len,
                  (uint32_t *)nodes, a.nodes * MOSAIC_WORDS(mosaic_node),
                  (uint32_t *)segments, a.segments * MOSAIC_WORDS(mosaic_segment),
                  (uint32_t *)points, a.points * MOSAIC_WORDS(mosaic_point),

@@ -15,7 +15,10 @@ pub struct Answer {
 }
 
 extern "C" {
+    pub fn mosaic_version() -> u32;
+
     pub fn mosaic_size(
+        mode: u32,
         width: u32,
         height: u32,
         paints: u32,
@@ -27,6 +30,7 @@ extern "C" {
     );
 
     pub fn mosaic_graph(
+        mode: u32,
         width: u32,
         height: u32,
         paints: u32,
@@ -44,6 +48,7 @@ extern "C" {
     );
 
     pub fn mosaic_whole(
+        mode: u32,
         width: u32,
         height: u32,
         paints: u32,

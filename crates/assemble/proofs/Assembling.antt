@@ -12,7 +12,7 @@ use lib.ListN.{length, getD, replicate, length-replicate}
 use lib.Seq.{sets}
 use borrow.Author.Tests.{le-ltb}
 use Rattle.rules.specs.Lists.{keep, upto}
-use Rattle.rules.specs.Picture.{Picture, picture, OUTSIDE, Dart}
+use Rattle.rules.specs.Picture.{Picture, seen, picture, OUTSIDE, Dart}
 use Rattle.rules.specs.Face.{pixels, labelOf, firsts, contours, islands, islandOf, face, faces}
 use Rattle.rules.specs.Records.{contoursOf, NONE}
 use Rattle.rules.proofs.Ground.Lists.{in-at, flat-in, keep-in, keep-few, upto-in, length-upto, at-map}
@@ -21,6 +21,7 @@ use Rattle.rules.proofs.Lattice.Frame.{Framed}
 use Rattle.rules.proofs.Tracing.Counts.{segment-count, crack-count}
 use Rattle.rules.proofs.Contours.Painted.{Painted, painted, reference-count}
 use Rattle.rules.proofs.Islands.Pixels.{labelOf-is}
+use Rattle.rules.proofs.Waste.{seen-inside}
 use Rattle.rules.proofs.Faces.FirstPixels.{First, firstPixels, first-in, in-firsts, firsts-all}
 use Rattle.rules.proofs.Faces.Faced.{faced}
 use Rattle.store.specs.Words.{part}
@@ -115,7 +116,7 @@ module _ {s : Size} {ls nodes segs points : List ℕ} {n : ℕ} {work : List ℕ
       }
 
       -- THE ISLANDS listed
-      module _ {m : ℕ} {work₃ : List ℕ} (l : Leaders (s .paints) (4 * C) (5 * C) (6 * C) ls work₂ (length ls) m work₃) where
+      module _ {m : ℕ} {work₃ : List ℕ} (l : Leaders (s .paints) (s .bound) (4 * C) (5 * C) (6 * C) ls work₂ (length ls) m work₃) where
         used₃ : Used work work₃
         used₃ = changed-then used₂ (record {
           long = l .changed .long;
@@ -136,26 +137,26 @@ module _ {s : Size} {ls nodes segs points : List ℕ} {n : ℕ} {work : List ℕ
         island₃ : {k : ℕ} → k < length cs → islandIn s segs points work₃ (5 * C) (firstOf (getD cs k [])) ≡ islandOf P ss (getD cs k [])
         island₃ h = contour-island M (g .drawn) (g .pointed) b h work₃ (5 * C) (numbers work₃ used₃)
 
-        leads-same : (p : ℕ) → p < s .width * s .height → leads (s .paints) (5 * C) ls work₂ p ≡ (ltb (labelOf P p) (s .paints) && eqb (getD (firsts P) p 0) p)
+        leads-same : (p : ℕ) → p < s .width * s .height → leads (s .paints) (s .bound) (5 * C) ls work₂ p ≡ (ltb (labelOf P p) (s .paints) && eqb (getD (firsts P) p 0) p)
         leads-same p h = go (decLt (labelOf P p) (s .paints))
           where
-            own : labelOf P p ≡ getD ls p 0
-            own = labelOf-is (s .width) (s .height) ls (M .count) p h
+            own : labelOf P p ≡ seen (s .bound) (getD ls p 0)
+            own = labelOf-is (s .width) (s .height) (s .bound) ls (M .count) p h
 
-            go : Dec (labelOf P p < s .paints) → leads (s .paints) (5 * C) ls work₂ p ≡ (ltb (labelOf P p) (s .paints) && eqb (getD (firsts P) p 0) p)
-            go (yes i) = rw own (ap (λ v. ltb (getD ls p 0) (s .paints) && eqb v p) (numbers work₂ used₂ p h (λ e. omega arith)))
-            go (no i) = rw (own, le-ltb (getD ls p 0) (s .paints) (omega (arith, own)))
+            go : Dec (labelOf P p < s .paints) → leads (s .paints) (s .bound) (5 * C) ls work₂ p ≡ (ltb (labelOf P p) (s .paints) && eqb (getD (firsts P) p 0) p)
+            go (yes i) = rw own (ap (λ v. ltb (seen (s .bound) (getD ls p 0)) (s .paints) && eqb v p) (numbers work₂ used₂ p h (λ e. omega arith)))
+            go (no i) = rw (own, le-ltb (seen (s .bound) (getD ls p 0)) (s .paints) (omega (arith, own)))
 
-        leaders-are : keep (leads (s .paints) (5 * C) ls work₂) (upto (length ls) 0) ≡ islands P (s .paints)
+        leaders-are : keep (leads (s .paints) (s .bound) (5 * C) ls work₂) (upto (length ls) 0) ≡ islands P (s .paints)
         unfolding islands pixels picture
         leaders-are =
-            ap (λ n. keep (leads (s .paints) (5 * C) ls work₂) (upto n 0)) (M .count)
-            ∙ keep-same (leads (s .paints) (5 * C) ls work₂) (λ p. ltb (labelOf P p) (s .paints) && eqb (getD (firsts P) p 0) p) (upto (s .width * s .height) 0)
+            ap (λ n. keep (leads (s .paints) (s .bound) (5 * C) ls work₂) (upto n 0)) (M .count)
+            ∙ keep-same (leads (s .paints) (s .bound) (5 * C) ls work₂) (λ p. ltb (labelOf P p) (s .paints) && eqb (getD (firsts P) p 0) p) (upto (s .width * s .height) 0)
             (λ p i. leads-same p (let u = upto-in (s .width * s .height) 0 p i in omega arith))
 
         islands-few : m ≤ s .width * s .height
         islands-few =
-            omega (arith, length-part work₃ (6 * C) m, ap length (l .listed), keep-few (leads (s .paints) (5 * C) ls work₂) (upto (length ls) 0), length-upto (length ls) 0, M .count)
+            omega (arith, length-part work₃ (6 * C) m, ap length (l .listed), keep-few (leads (s .paints) (s .bound) (5 * C) ls work₂) (upto (length ls) 0), length-upto (length ls) 0, M .count)
 
         -- no island has a contour yet
         none-yet : (p : ℕ) → First P (s .paints) p → getD work₃ (4 * C + p) 0 ≡ NONE
@@ -213,9 +214,15 @@ module _ {s : Size} {ls nodes segs points : List ℕ} {n : ℕ} {work : List ℕ
             pub used₅ : Used work work₅
             used₅ = changed-then used₄ (record { long = o .long; others = λ i p q. same₅ i q })
 
-            first-labels : (p : ℕ) → In p (islands P (s .paints)) → getD ls p 0 ≡ labelOf P p
+            -- a painted label is read as it is
+            painted-label : (p : ℕ) → First P (s .paints) p → labelOf P p ≡ getD ls p 0
             unfolding picture
-            first-labels p i = sym (labelOf-is (s .width) (s .height) ls (M .count) p (first-in P (s .paints) p (firsts-all P (s .paints) .onto p i) .on))
+            painted-label p f =
+                let e = labelOf-is (s .width) (s .height) (s .bound) ls (M .count) p (f .on) in
+                e ∙ seen-inside (s .bound) (getD ls p 0) (omega (arith, e, f .painted, b))
+
+            first-labels : (p : ℕ) → In p (islands P (s .paints)) → getD ls p 0 ≡ labelOf P p
+            first-labels p i = sym (painted-label p (first-in P (s .paints) p (firsts-all P (s .paints) .onto p i)))
 
             listed₅ : part work₅ (6 * C) m ≡ firstPixels P (s .paints)
             listed₅ = sort-firsts P (s .paints) o listed₄ first-labels
@@ -246,7 +253,7 @@ module _ {s : Size} {ls nodes segs points : List ℕ} {n : ℕ} {work : List ℕ
 
               gathered : Gathered ls 0 (4 * C) work₅ (face P ss cs p)
               unfolding face picture
-              gathered = record { strung = strung; region = labelOf-is (s .width) (s .height) ls (M .count) p (first .on) }
+              gathered = record { strung = strung; region = painted-label p first }
 
             fits : Fits (contoursOf (faces P ss (s .paints))) nothing
             fits =

@@ -8,6 +8,7 @@ use native.Mathlib.Omega.{arith}
 use lib.ListN.{length, getD, set, length-set}
 use lib.Seq.{getD-set-same, getD-set-other}
 use borrow.Author.Tests.{lt-ltb, le-ltb, eq-eqb, ne-eqb}
+use Rattle.rules.specs.Picture.{seen}
 use Rattle.rules.specs.Lists.{keep, upto}
 use Rattle.rules.proofs.Ground.Lists.{keep-append, keep-in, upto-in, upto-snoc}
 use Rattle.store.specs.Words.{part}
@@ -25,33 +26,33 @@ keep-next t p b e =
     ∙ keep-append t (upto p 0) (p ∷ [])
     ∙ ap (λ (b : Bool). keep t (upto p 0) ++ elim b as (λ x. List ℕ) [ true ↦ p ∷ [] | false ↦ [] ]) e
 
-module _ {paints heads ids list : ℕ} {ls work₀ : List ℕ} where
-  pub begin : Pages heads ids list (length ls) work₀ → Leaders paints heads ids list ls work₀ 0 0 work₀
+module _ {paints bound heads ids list : ℕ} {ls work₀ : List ℕ} where
+  pub begin : Pages heads ids list (length ls) work₀ → Leaders paints bound heads ids list ls work₀ 0 0 work₀
   unfolding keep upto
   begin g = record { pages = g; changed = changed-none; few = omega arith; listed = refl; empty = λ q i. absurd (not-nil i) }
 
-  module _ {p m : ℕ} {work : List ℕ} (t : Leaders paints heads ids list ls work₀ p m work) (b : p < length ls) where
+  module _ {p m : ℕ} {work : List ℕ} (t : Leaders paints bound heads ids list ls work₀ p m work) (b : p < length ls) where
     abbrev leader : ℕ → Bool
-    leader = leads paints ids ls work₀
+    leader = leads paints bound ids ls work₀
 
     same-number : getD work (ids + p) 0 ≡ getD work₀ (ids + p) 0
     same-number = t .changed .others (ids + p) (inr (omega (arith, t .pages .apart))) (inl (omega (arith, t .pages .behind)))
 
-    skip : leader p ≡ false → Leaders paints heads ids list ls work₀ (suc p) m work
+    skip : leader p ≡ false → Leaders paints bound heads ids list ls work₀ (suc p) m work
     skip e =
         let z : keep leader (upto (suc p) 0) ≡ keep leader (upto p 0) = keep-next leader p false e ∙ append-nil (keep leader (upto p 0)) in
         record { pages = t .pages; changed = t .changed; few = omega (arith, t .few); listed = t .listed ∙ sym z; empty = λ q i. t .empty q (subst (In q) z i) }
 
-    pub unpainted : paints ≤ getD ls p 0 → Leaders paints heads ids list ls work₀ (suc p) m work
-    unpainted h = skip (rw (le-ltb (getD ls p 0) paints h))
+    pub unpainted : paints ≤ seen bound (getD ls p 0) → Leaders paints bound heads ids list ls work₀ (suc p) m work
+    unpainted h = skip (rw (le-ltb (seen bound (getD ls p 0)) paints h))
 
-    module _ (l : getD ls p 0 < paints) where
-      pub follower : (getD work (ids + p) 0 ≡ p → ⊥) → Leaders paints heads ids list ls work₀ (suc p) m work
-      follower n = skip (rw (lt-ltb (getD ls p 0) paints l, ne-eqb (getD work₀ (ids + p) 0) p (λ e. n (same-number ∙ e))))
+    module _ (l : seen bound (getD ls p 0) < paints) where
+      pub follower : (getD work (ids + p) 0 ≡ p → ⊥) → Leaders paints bound heads ids list ls work₀ (suc p) m work
+      follower n = skip (rw (lt-ltb (seen bound (getD ls p 0)) paints l, ne-eqb (getD work₀ (ids + p) 0) p (λ e. n (same-number ∙ e))))
 
       module _ (own : getD work (ids + p) 0 ≡ p) {work₁ work₂ : List ℕ} (g : work₁ ≡ set work (list + m) p) (h : work₂ ≡ set work₁ (heads + p) NONE) where
         more : keep leader (upto (suc p) 0) ≡ keep leader (upto p 0) ++ (p ∷ [])
-        more = keep-next leader p true (rw (lt-ltb (getD ls p 0) paints l, eq-eqb (getD work₀ (ids + p) 0) p (sym same-number ∙ own)))
+        more = keep-next leader p true (rw (lt-ltb (seen bound (getD ls p 0)) paints l, eq-eqb (getD work₀ (ids + p) 0) p (sym same-number ∙ own)))
 
         long : length work₁ ≡ length work₀
         long = ap length g ∙ length-set work (list + m) p ∙ t .changed .long
@@ -69,7 +70,7 @@ module _ {paints heads ids list : ℕ} {ls work₀ : List ℕ} where
         empty : getD work₂ (heads + p) 0 ≡ NONE
         empty = ap (λ (w : List ℕ). getD w (heads + p) 0) h ∙ getD-set-same work₁ (heads + p) NONE 0 (omega (arith, long, t .pages .behind, t .pages .room))
 
-        pub leading : Leaders paints heads ids list ls work₀ (suc p) (m + 1) work₂
+        pub leading : Leaders paints bound heads ids list ls work₀ (suc p) (m + 1) work₂
         leading = record {
           pages = t .pages;
           changed = changed-then (t .changed) (changed-then {ws′ = work₁} (rw g (set-second work (list + m) p (omega arith) (omega (arith, t .few)))) (rw h (set-first work₁ (heads + p) NONE (omega arith) (omega arith))));

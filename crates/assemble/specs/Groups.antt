@@ -6,6 +6,7 @@ use mathlib.Core.Bool.{Bool, cond, _&&_}
 use mathlib.Core.List.{List, [], map, List·Memᴰ as In}
 use lib.Dec.{eqb, ltb}
 use lib.ListN.{length, getD, set}
+use Rattle.rules.specs.Picture.{seen}
 use Rattle.rules.specs.Lists.{keep, flat, upto, Distinct}
 use Rattle.store.specs.Words.{part}
 use Rattle.lattice.specs.declared.Size.{Size}
@@ -17,8 +18,8 @@ use Rattle.assemble.specs.Trails.{LINK, firstOf, endOf, after, Along, St
 -- THE ISLANDS
 
 -- the pixel p is the first of a painted island
-abbrev pub leads : ℕ → ℕ → List ℕ → List ℕ → ℕ → Bool
-leads paints ids ls work p = ltb (getD ls p 0) paints && eqb (getD work (ids + p) 0) p
+abbrev pub leads : ℕ → ℕ → ℕ → List ℕ → List ℕ → ℕ → Bool
+leads paints bound ids ls work p = ltb (seen bound (getD ls p 0)) paints && eqb (getD work (ids + p) 0) p
 
 -- parts for the heads, the numbers of the pixels and the list, one behind the other
 pub record Pages (heads ids list pixels : ℕ) (work : List ℕ) : Type 0 where
@@ -28,21 +29,21 @@ pub record Pages (heads ids list pixels : ℕ) (work : List ℕ) : Type 0 where
   pub low : pixels ≤ NONE
 
 -- of the pixels before p those that lead are listed, m of them, and none has a contour
-pub record Leaders (paints heads ids list : ℕ) (ls work₀ : List ℕ) (p m : ℕ) (work : List ℕ) : Type 0 where
+pub record Leaders (paints bound heads ids list : ℕ) (ls work₀ : List ℕ) (p m : ℕ) (work : List ℕ) : Type 0 where
   pub pages : Pages heads ids list (length ls) work₀
   pub changed : Changed heads (length ls) list (length ls) work₀ work
   pub few : m ≤ p
-  pub listed : part work list m ≡ keep (leads paints ids ls work₀) (upto p 0)
-  pub empty : (q : ℕ) → In q (keep (leads paints ids ls work₀) (upto p 0)) → getD work (heads + q) 0 ≡ NONE
+  pub listed : part work list m ≡ keep (leads paints bound ids ls work₀) (upto p 0)
+  pub empty : (q : ℕ) → In q (keep (leads paints bound ids ls work₀) (upto p 0)) → getD work (heads + q) 0 ≡ NONE
 
-pub record LeaderDue (paints heads ids list : ℕ) (ls : List ℕ) (p m : ℕ) (work : List ℕ) : Type 0 where
+pub record LeaderDue (paints bound heads ids list : ℕ) (ls : List ℕ) (p m : ℕ) (work : List ℕ) : Type 0 where
   pub work₀ : List ℕ
-  pub leaders : Leaders paints heads ids list ls work₀ p m work
+  pub leaders : Leaders paints bound heads ids list ls work₀ p m work
   pub below : p < length ls
 
-abbrev pub LeaderMoves : ℕ → ℕ → ℕ → ℕ → List ℕ → ℕ → ℕ → List ℕ → ℕ → ℕ → List ℕ → Type 0
-LeaderMoves paints heads ids list ls p m work p′ m′ work′ =
-    (work₀ : List ℕ) → p < length ls → Leaders paints heads ids list ls work₀ p m work → Leaders paints heads ids list ls work₀ p′ m′ work′
+abbrev pub LeaderMoves : ℕ → ℕ → ℕ → ℕ → ℕ → List ℕ → ℕ → ℕ → List ℕ → ℕ → ℕ → List ℕ → Type 0
+LeaderMoves paints bound heads ids list ls p m work p′ m′ work′ =
+    (work₀ : List ℕ) → p < length ls → Leaders paints bound heads ids list ls work₀ p m work → Leaders paints bound heads ids list ls work₀ p′ m′ work′
 
 -- THE CONTOURS of each
 

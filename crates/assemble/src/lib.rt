@@ -310,16 +310,17 @@ fn list_island(
     labels: &[u32],
     work: &mut [u32],
     paints: u32,
+    bound: u32,
     heads: usize,
     ids: usize,
     list: usize,
     p: usize,
     m: usize,
 ) -> usize
-    requires { ⌜ LeaderDue paints heads ids list (now labels) p m (now work) ⌝ }
-    ensures { λ n. ⌜ LeaderMoves paints heads ids list (now (labels .entry)) p m (now (work .entry)) (suc p) n (now (work .exit)) ⌝ }
+    requires { ⌜ LeaderDue paints bound heads ids list (now labels) p m (now work) ⌝ }
+    ensures { λ n. ⌜ LeaderMoves paints bound heads ids list (now (labels .entry)) p m (now (work .entry)) (suc p) n (now (work .exit)) ⌝ }
 {
-    if store::get(labels, p) < paints {
+    if lattice::seen(bound, store::get(labels, p)) < paints {
         if (store::get(work, ids + p) as usize) == p {
             store::put(work, list + m, p as u32);
             store::put(work, heads + p, NONE);
@@ -334,17 +335,18 @@ fn list_islands(
     labels: &[u32],
     work: &mut [u32],
     paints: u32,
+    bound: u32,
     heads: usize,
     ids: usize,
     list: usize,
 ) -> usize
     requires { ⌜ Pages heads ids list (length (now labels)) (now work) ⌝ }
-    ensures { λ m. ⌜ Leaders paints heads ids list (now (labels .entry)) (now (work .entry)) (length (now (labels .entry))) m (now (work .exit)) ⌝ }
+    ensures { λ m. ⌜ Leaders paints bound heads ids list (now (labels .entry)) (now (work .entry)) (length (now (labels .entry))) m (now (work .exit)) ⌝ }
 {
     let mut m: usize = 0;
     let mut p: usize = 0;
     while p < labels.len() {
-        m = list_island(labels, work, paints, heads, ids, list, p, m);
+        m = list_island(labels, work, paints, bound, heads, ids, list, p, m);
         p += 1;
     }
     m
@@ -552,7 +554,7 @@ pub fn assemble(
     let lasts = 7 * plane;
     store::fill(work, 0, 2 * (n as usize), NONE);
     let count = find_contours(s, labels, nodes, segments, work, 0, lasts, 2 * n);
-    let m = list_islands(labels, work, s.paints, heads, ids, list);
+    let m = list_islands(labels, work, s.paints, s.bound, heads, ids, list);
     thread(s, segments, points, work, 0, heads, ids, lasts, count);
     face::order::sort(labels, work, list, lasts, m);
     write_faces(labels, work, 0, heads, list, references, contours, faces, m)

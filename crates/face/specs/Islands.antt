@@ -21,7 +21,7 @@ abbrev pub area : Plan → ℕ
 area m = m .width * m .height
 
 abbrev pub view : Plan → List ℕ → Picture
-view m ls = picture (m .width) (m .height) ls
+view m ls = picture (m .width) (m .height) (m .bound) ls
 
 -- the word for the number of q
 abbrev pub number : Plan → List ℕ → ℕ → ℕ
@@ -159,4 +159,4 @@ pub record Numbered (m : Plan) (paints : ℕ) (ls work : List ℕ) (r : ℕ) (wo
 
 -- numbers in plane 5
 abbrev pub plan : Size → Plan
-plan s = record { width = s .width; height = s .height; ids = 5 * plane (s .width) (s .height) }
+plan s = record { width = s .width; height = s .height; bound = s .bound; ids = 5 * plane (s .width) (s .height) }

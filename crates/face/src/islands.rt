@@ -7,18 +7,27 @@ ghost use mathlib.Core.Bool.{_&&_};
 ghost use Prim.Native.Nat.{suc, _*_, _%_, _<_, _≤_};
 ghost use lib.Dec.{ltb, eqb};
 ghost use lib.ListN.{length, getD};
-ghost use Rattle.rules.specs.Picture.{one};
+ghost use Rattle.rules.specs.Picture.{one, seen};
 ghost use Rattle.lattice.specs.Size.{Map};
 ghost use Rattle.lattice.specs.Planes.{plane};
 ghost use Rattle.face.specs.Islands.{area, Sizes, Leaf, Rooted, Met, Before, Over, LeftOf, RightOf, Above, Hand, Linked, Links, NextColumn, Unsettled, Settles, Numbered, plan};
 
 const NO_ISLAND: u32 = 4294967295;
 
-// The sides of the map, and where the numbers stand in the work store.
+// The sides of the map, the first label that is read as OUTSIDE, and where the numbers stand in the work store.
 struct Plan {
     width: usize,
     height: usize,
+    bound: u32,
     ids: usize,
+}
+
+// The label of the pixel p as it is read.
+fn read(labels: &[u32], m: Plan, p: usize) -> u32
+    requires { ⌜ p < length (now labels) ⌝ }
+    ensures { λ r. ⌜ r ≡ seen (m .bound) (getD (now (labels .entry)) p 0) ⌝ }
+{
+    lattice::seen(m.bound, store::at(labels, p))
 }
 
 // The root of the tree that q is in, among the pixels up to p. The way there is halved.
@@ -42,7 +51,7 @@ fn root(labels: &[u32], work: &mut [u32], m: Plan, p: usize, q: usize) -> usize
 fn join(labels: &[u32], work: &mut [u32], m: Plan, p: usize, q: usize)
     requires leaf { ⌜ Leaf m (suc p) (now labels) (now work) p ⌝ }
     requires before { ⌜ Before m p q ⌝ }
-    requires same { ⌜ getD (now labels) q 0 ≡ getD (now labels) p 0 ⌝ }
+    requires same { ⌜ seen (m .bound) (getD (now labels) q 0) ≡ seen (m .bound) (getD (now labels) p 0) ⌝ }
     ensures { λ _. ⌜ Met m p (now (labels .entry)) (now (work .entry)) (now (work .exit)) (λ r. r ≡ q) ⌝ }
 {
     if store::at(work, m.ids + p) == store::at(work, m.ids + q) {
@@ -63,7 +72,7 @@ fn meet(labels: &[u32], work: &mut [u32], m: Plan, p: usize, q: usize)
     requires before { ⌜ Before m p q ⌝ }
     ensures { λ _. ⌜ Met m p (now (labels .entry)) (now (work .entry)) (now (work .exit)) (λ r. r ≡ q) ⌝ }
 {
-    if store::at(labels, q) == store::at(labels, p) {
+    if read(labels, m, q) == read(labels, m, p) {
         join(labels, work, m, p, q);
     }
 }
@@ -100,7 +109,7 @@ fn meet_above(labels: &[u32], work: &mut [u32], m: Plan, x: usize, p: usize)
         return;
     }
     let north = p - m.width;
-    if store::at(labels, north) == store::at(labels, p) {
+    if read(labels, m, north) == read(labels, m, p) {
         join(labels, work, m, p, north);
         return;
     }
@@ -115,7 +124,7 @@ fn link(labels: &[u32], work: &mut [u32], m: Plan, x: usize, p: usize)
     requires column { ⌜ x ≡ p % m .width ⌝ }
     ensures { λ _. ⌜ Links m p (now (labels .entry)) (now (work .entry)) (suc p) (now (work .exit)) ⌝ }
 {
-    if store::at(labels, p) == OUTSIDE {
+    if read(labels, m, p) == OUTSIDE {
         work[m.ids + p] = NO_ISLAND;
         return;
     }
@@ -164,7 +173,7 @@ fn settle(labels: &[u32], work: &mut [u32], m: Plan, paints: u32, q: usize) -> u
     requires { ⌜ Unsettled m q (now labels) (now work) ⌝ }
     ensures { λ r. ⌜ Settles m paints q (now (labels .entry)) (now (work .entry)) r (now (work .exit)) ⌝ }
 {
-    let label = store::at(labels, q);
+    let label = read(labels, m, q);
     if label == OUTSIDE {
         return 0;
     }
@@ -197,6 +206,7 @@ pub fn islands(s: Size, labels: &[u32], work: &mut [u32]) -> u32
     let m = Plan {
         width: s.width as usize,
         height: s.height as usize,
+        bound: s.bound,
         ids: 5 * lattice::plane(s),
     };
     link_all(labels, work, m);

@@ -31,7 +31,7 @@ module _ {P : Picture} (F : Framed P) (x y : ℕ) where
   south c = crack-to-y F (dart x y S) c
 
 pub framed : (s : Size) (ls : List ℕ) → Framed (pic s ls)
-framed s ls = picture-framed (s .width) (s .height) ls
+framed s ls = picture-framed (s .width) (s .height) (s .bound) ls
 
 pub crack-edge : (s : Size) (ls : List ℕ) (a : Walker) → a .d < 4 → crack (pic s ls) (dartOf a) ≡ true → Edge s a
 unfolding picture

@@ -29,4 +29,4 @@ pub record Corner (s : Size) (x y : ℕ) : Type 0 where
   pub down : y ≤ s .height
 
 abbrev pub pic : Size → List ℕ → Picture
-pic s ls = picture (s .width) (s .height) ls
+pic s ls = picture (s .width) (s .height) (s .bound) ls

@@ -1,7 +1,7 @@
 // The lattice of pixel corners: labels, cracks, nodes, and a walker's step.
 ghost use mathlib.Core.Path.{_≡_};
 ghost use Prim.Native.Nat.{_+_, _*_, _<_, _≤_};
-ghost use Rattle.rules.specs.Picture.{one as oneIf, label as labelAt, rightOf, code};
+ghost use Rattle.rules.specs.Picture.{one as oneIf, seen as seenLabel, label as labelAt, rightOf, code};
 ghost use Rattle.lattice.specs.Size.{Small, Sides, Map, Corner, pic};
 ghost use Rattle.lattice.specs.Planes.{plane, place};
 ghost use Rattle.lattice.specs.Dirs.{dir};
@@ -13,11 +13,12 @@ pub const OUTSIDE: u32 = 4294967295;
 // The word for "none" in a record.
 pub const NONE: u32 = 4294967295;
 
-// The sides of a map, and how many of its labels are painted.
+// The sides of a map, how many of its labels are painted, and the first label that is read as OUTSIDE.
 pub struct Size {
     pub width: u32,
     pub height: u32,
     pub paints: u32,
+    pub bound: u32,
 }
 
 // Numbers that must not be mixed up: they are unpacked at the stores only.
@@ -59,15 +60,23 @@ pub fn corner_index(s: Size, x: u32, y: u32) -> usize
     cell(s.width + 1, x, y)
 }
 
+// A label as it is read: one at or above the bound as OUTSIDE.
+pub fn seen(bound: u32, label: u32) -> u32
+    ensures { λ r. ⌜ r ≡ seenLabel bound label ⌝ }
+{
+    if label < bound { label } else { OUTSIDE }
+}
+
 // The label of the pixel (x, y), OUTSIDE off the map.
 pub fn label(s: Size, labels: &[u32], x: u32, y: u32) -> RegionId
     requires { ⌜ Map s (now labels) ⌝ }
-    ensures { λ r. ⌜ r .0 ≡ labelAt (s .width) (s .height) (now (labels .entry)) x y ⌝ }
+    ensures { λ r. ⌜ r .0 ≡ labelAt (s .width) (s .height) (s .bound) (now (labels .entry)) x y ⌝ }
 {
     if x < s.width {
         if y < s.height {
             let i = cell(s.width, x, y);
-            return RegionId(labels[i]);
+            let l = labels[i];
+            return RegionId(seen(s.bound, l));
         }
     }
     RegionId(OUTSIDE)

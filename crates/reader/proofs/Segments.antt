@@ -98,7 +98,7 @@ module _ {P : Picture} (F : Framed P) {ss : List (List Dart)} (D : Describes P s
 
 module _ (m : Map) (segs points : List ℕ) (i : ℕ) (h : i < length (segments (pictureOf m))) where
   abbrev F : Framed (pictureOf m)
-  F = picture-framed (m .width) (m .height) (m .labels)
+  F = picture-framed (m .width) (m .height) (m .bound) (m .labels)
 
   pub whole-read-back : ReadBack (storeAfter 0 (cutList m .segments) segs) (storeAfter 0 (cutList m .points) points) i (getD (segments (pictureOf m)) i [])
   unfolding cutList cuts storeAfter

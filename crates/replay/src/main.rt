@@ -1,9 +1,9 @@
 // Runs the answers of the Rust, which stand as data in the file `stdin`, through the library, and compares them word for word.
 // `differential/run answers` wrote that file; a map has sides up to 10 there.
+use calls::Answer;
 use lattice::Size;
 use libc::STDIN_FILENO;
 use libc::STDOUT_FILENO;
-use mosaic::Answer;
 ghost use mathlib.Core.Path.{_≡_};
 ghost use Prim.Native.Nat.{_≤_};
 ghost use lib.ListN.{length};
@@ -160,7 +160,7 @@ impl Tally {
     // With the call size compared on a map with these counts.
     fn size(self, s: Size, labels: &[u32], counts: [u32; 7]) -> Tally {
         let mut work = [OLD; 971];
-        let a = mosaic::size(s, labels, &mut work);
+        let a = calls::size(s, labels, &mut work);
         self.answer(a, counts).cleared(&work, s)
     }
 
@@ -170,7 +170,7 @@ impl Tally {
         let mut nodes = [OLD; 731];
         let mut segments = [OLD; 1763];
         let mut points = [OLD; 883];
-        let a = mosaic::graph(s, labels, &mut work, &mut nodes, &mut segments, &mut points);
+        let a = calls::graph(s, labels, &mut work, &mut nodes, &mut segments, &mut points);
         let mut few = counts;
         few[3] = 0;
         few[4] = 0;
@@ -202,7 +202,7 @@ impl Tally {
         let mut references = [OLD; 443];
         let mut contours = [OLD; 243];
         let mut faces = [OLD; 303];
-        let a = mosaic::whole(
+        let a = calls::whole(
             s,
             labels,
             &mut work,
@@ -228,6 +228,7 @@ impl Tally {
             width: head[0],
             height: head[1],
             paints: head[2],
+            bound: lattice::OUTSIDE,
         };
         let n = area(s.width as usize, s.height as usize);
         let mut labels = [0u32; 121];

@@ -8,3 +8,4 @@ pub mod Contours
 pub mod Islands
 pub mod Faces
 pub mod CutList
+pub mod Waste

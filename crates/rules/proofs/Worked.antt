@@ -3,14 +3,14 @@ use Prim.Native.Nat.{ℕ}
 use mathlib.Core.Path.{_≡_, refl}
 use mathlib.Core.List.{List, [], _∷_}
 use Rattle.rules.specs.Lists.{keep, flat, upto, among}
-use Rattle.rules.specs.Picture.{OUTSIDE, label, northwest, picture, sameDart, toX, toY, turned, leftAt, left, right, crack, degree, node}
+use Rattle.rules.specs.Picture.{OUTSIDE, seen, label, northwest, picture, sameDart, toX, toY, turned, leftAt, left, right, crack, degree, node}
 use Rattle.rules.specs.Graph.{wayOn, onward, following, meets, ending, walk, fuel, on, visit, trace, row, rows, out, corners, nodes, segments}
 use Rattle.rules.specs.Face.{pixels, labelOf, lesser, lesser3, least, rounds, firsts, backwards, refs, steps, firstStep, lastStep, outEntry, keeps, successor, turn, region, isOpen, next, round, enter, discover, contours, insert, sorted, islands, besideAt, islandOf, face, faces}
 use Rattle.rules.specs.Records.{NONE, nodeRecord, nodeWords, nodeAt, pointRecords, pointWords, segmentWords, contoursOf, contourWords, faceWords}
 use Rattle.rules.specs.Calls.{Map, cuts, cutList, counted, workWords}
 
 abbrev map : ℕ → ℕ → ℕ → List ℕ → Map
-map w h paints ls = record { width = w; height = h; paints = paints; labels = ls }
+map w h paints ls = record { width = w; height = h; paints = paints; bound = OUTSIDE; labels = ls }
 
 -- the seven counts, in answer order
 abbrev counts : Map → List ℕ
@@ -79,7 +79,7 @@ pub record Worked : Type 0 where
   pub corner-touch : cutList cornerTouch .faces ≡ 0 ∷ 0 ∷ 2 ∷ 1 ∷ 2 ∷ 1 ∷ []
 
 pub worked : Worked
-unfolding keep flat upto among label northwest picture sameDart toX toY turned leftAt left right crack degree node wayOn onward following meets ending walk fuel on visit trace row rows out corners nodes segments pixels labelOf lesser lesser3 least rounds firsts backwards refs steps firstStep lastStep outEntry keeps successor turn region isOpen next round enter discover contours insert sorted islands besideAt islandOf face faces nodeRecord nodeWords nodeAt pointRecords pointWords segmentWords contoursOf contourWords faceWords cuts cutList counted
+unfolding keep flat upto among seen label northwest picture sameDart toX toY turned leftAt left right crack degree node wayOn onward following meets ending walk fuel on visit trace row rows out corners nodes segments pixels labelOf lesser lesser3 least rounds firsts backwards refs steps firstStep lastStep outEntry keeps successor turn region isOpen next round enter discover contours insert sorted islands besideAt islandOf face faces nodeRecord nodeWords nodeAt pointRecords pointWords segmentWords contoursOf contourWords faceWords cuts cutList counted
 worked = record {
   empty = λ p. refl;
   empty-work = λ p. refl;

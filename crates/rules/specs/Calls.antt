@@ -6,7 +6,7 @@ use mathlib.Core.List.{List, [], _∷_, _++_, map}
 use lib.Dec.{leb, ltb, eqb}
 use lib.ListN.{length, getD, drop, replicate}
 use Rattle.rules.specs.Lists.{flat}
-use Rattle.rules.specs.Picture.{Picture, picture, Dart}
+use Rattle.rules.specs.Picture.{OUTSIDE, Picture, seen, picture, Dart}
 use Rattle.rules.specs.Graph.{nodes, segments}
 use Rattle.rules.specs.Face.{Face, faces}
 use Rattle.rules.specs.Records.{nodeWords, segmentWords, pointWords, contoursOf, contourWords, faceWords}
@@ -17,10 +17,16 @@ pub record Map : Type 0 where
   pub width : ℕ
   pub height : ℕ
   pub paints : ℕ
+  -- labels from here on are read as OUTSIDE: OUTSIDE itself, or the paint count where no cut goes through waste (document 02, #107)
+  pub bound : ℕ
   pub labels : List ℕ
 
 abbrev pub pictureOf : Map → Picture
-pictureOf m = picture (m .width) (m .height) (m .labels)
+pictureOf m = picture (m .width) (m .height) (m .bound) (m .labels)
+
+-- the same map with its waste cleared: each label at or above the bound replaced by OUTSIDE, and the others read as they are
+abbrev pub cleared : Map → Map
+cleared m = record { width = m .width; height = m .height; paints = m .paints; bound = OUTSIDE; labels = map (seen (m .bound)) (m .labels) }
 
 -- a map that neither 1 nor 2 refuses, its paint count a word
 pub record Accepted (m : Map) : Type 0 where
@@ -29,9 +35,9 @@ pub record Accepted (m : Map) : Type 0 where
   pub size : length (m .labels) ≡ m .width * m .height
   pub word : m .paints ≤ 4294967295
 
--- the label of the pixel (x, y), which lies on the map
+-- the label that is read at the pixel (x, y), which lies on the map
 abbrev pub labelAt : Map → ℕ → ℕ → ℕ
-labelAt m x y = getD (m .labels) (y * m .width + x) 0
+labelAt m x y = seen (m .bound) (getD (m .labels) (y * m .width + x) 0)
 
 -- THE CUT LIST: the words of each store, and the number of steps
 

@@ -15,17 +15,21 @@ pub record Picture : Type 0 where
   pub h : ℕ
   pub nw : ℕ → ℕ → ℕ
 
+-- a label as it is read: one at or above the bound is waste, and reads as OUTSIDE
+unfoldable pub seen : ℕ → ℕ → ℕ
+seen b l = elim (ltb l b) [ true ↦ l | false ↦ OUTSIDE ]
+
 -- the label at the pixel (x, y), OUTSIDE off the map
-unfoldable pub label : ℕ → ℕ → List ℕ → ℕ → ℕ → ℕ
-label w h ls x y = cond (ltb x w && ltb y h) (getD ls (y * w + x) OUTSIDE) OUTSIDE
+unfoldable pub label : ℕ → ℕ → ℕ → List ℕ → ℕ → ℕ → ℕ
+label w h b ls x y = cond (ltb x w && ltb y h) (seen b (getD ls (y * w + x) OUTSIDE)) OUTSIDE
 
 unfoldable pub northwest : (ℕ → ℕ → ℕ) → ℕ → ℕ → ℕ
 northwest f zero y = OUTSIDE
 northwest f (suc x) zero = OUTSIDE
 northwest f (suc x) (suc y) = f x y
 
-unfoldable pub picture : ℕ → ℕ → List ℕ → Picture
-picture w h ls = record { w = w; h = h; nw = northwest (label w h ls) }
+unfoldable pub picture : ℕ → ℕ → ℕ → List ℕ → Picture
+picture w h b ls = record { w = w; h = h; nw = northwest (label w h b ls) }
 
 -- DIRECTIONS, y downwards
 

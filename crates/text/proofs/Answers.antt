@@ -6,11 +6,12 @@ use native.Mathlib.Omega.{arith}
 use native.Mathlib.Nat.{mul-le-mul}
 use lib.ListN.{length, getD, take, drop, replicate, length-replicate}
 use lib.Seq.{length-sets, take-at}
+use Rattle.rules.specs.Picture.{OUTSIDE}
 use Rattle.store.proofs.Writes.{sets-front}
 use Rattle.rules.specs.Calls.{Map as LabelledMap, cutList, counted, Outcome, whole}
-use Rattle.mosaic.specs.declared.Answer.{Answer}
-use Rattle.mosaic.specs.Outcome.{mapWith, answerOf, outcome}
-use Rattle.mosaic.proofs.Demands.Answered.{every-whole}
+use Rattle.calls.specs.declared.Answer.{Answer}
+use Rattle.calls.specs.Outcome.{mapWith, answerOf, outcome}
+use Rattle.calls.proofs.Demands.Answered.{every-whole}
 use Rattle.text.specs.Bytes.{bytes}
 use Rattle.text.specs.Grammar.{readHeader}
 use Rattle.text.specs.Parse.{parsed}
@@ -76,6 +77,6 @@ module _ (text : List ℕ) {store store′ : List ℕ} {r : Parsed} (k : ParsedI
         let front = k .stored ∙ sets-front store (parsed text .labels) (omega (arith, area, long, small .count)) in
         ap (take (w * h)) front ∙ take-at (parsed text .labels) (drop (length (parsed text .labels)) store) (w * h) (small .count)
 
-    pub map-read : printed (mapWith w h p (take (w * h) store′)) ≡ textmap text
+    pub map-read : printed (mapWith w h p OUTSIDE (take (w * h) store′)) ≡ textmap text
     unfolding textmap answered
-    map-read = ap (λ (ls : List ℕ). printed (mapWith w h p ls)) labels-are ∙ ap (λ (q : Parsed). answered q (parsed text .labels)) (sym e ∙ k .answer)
+    map-read = ap (λ (ls : List ℕ). printed (mapWith w h p OUTSIDE ls)) labels-are ∙ ap (λ (q : Parsed). answered q (parsed text .labels)) (sym e ∙ k .answer)

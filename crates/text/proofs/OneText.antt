@@ -186,7 +186,7 @@ header-only s w h p t e = one (readNumber 4294967295 SPACE s) refl e
     one bad q e = let z : _≡_ {A = ℕ} 0 1 = cc in absurd (omega arith)
     one (got a s₁) q e = two a s₁ (number-only 4294967295 SPACE s a s₁ q) (readNumber 4294967295 SPACE s₁) refl e
 
-pub only-text : (s : List ℕ) (w h p : ℕ) → parsed s .answer ≡ Map w h p → s ≡ textOf (record { width = w; height = h; paints = p; labels = parsed s .labels })
+pub only-text : (s : List ℕ) (w h p : ℕ) → parsed s .answer ≡ Map w h p → s ≡ textOf (record { width = w; height = h; paints = p; bound = OUTSIDE; labels = parsed s .labels })
 unfolding textOf
 only-text s w h p e =
     let m = parsed-map w h p s e in

@@ -21,7 +21,7 @@ use Rattle.rules.proofs.Tracing.Counts.{step-count}
 use Rattle.rules.proofs.CutList.Counts.{Counts, counts, bounds}
 use Rattle.rules.proofs.CutList.Values.{AtMost, most-more, node-values, segment-values, label-most, point-values, reference-values, region-values, contours-most}
 use Rattle.rules.proofs.CutList.Parts.{segments-fill, contours-fill, ofFace, faces-fill}
-use Rattle.mosaic.proofs.Demands.Answered.{every-whole}
+use Rattle.calls.proofs.Demands.Answered.{every-whole}
 use Rattle.text.specs.Output.{pieces, mapLine, countLine, nodeLine, segLine, faceLines, report}
 use Rattle.text.specs.Parse.{parsed}
 use Rattle.text.specs.Program.{printed, answered, textmap}
@@ -49,7 +49,7 @@ pub record FewCuts (a : Answer) : Type 0 where
 pub few-cuts : (m : LabelledMap) → Small m → FewCuts (counted 0 (cutList m))
 unfolding cutList picture
 few-cuts m s =
-    let F = picture-framed (m .width) (m .height) (m .labels) in
+    let F = picture-framed (m .width) (m .height) (m .bound) (m .labels) in
     let b = bounds F (describes F) (s .word) 0 in
     let area = mul-le-mul (s .narrow) (s .low) in
     let two = mul-assoc 2 (m .width) (m .height) in
@@ -101,7 +101,7 @@ module _ (m : LabelledMap) (s : Small m) (labels : AtMost OUTSIDE (m .labels)) w
   P = pictureOf m
 
   abbrev F : Framed P
-  F = picture-framed (m .width) (m .height) (m .labels)
+  F = picture-framed (m .width) (m .height) (m .bound) (m .labels)
 
   abbrev cut : List (List Dart)
   cut = segments P
@@ -141,7 +141,7 @@ module _ (m : LabelledMap) (s : Small m) (labels : AtMost OUTSIDE (m .labels)) w
             (λ i j.
             let b = upto-in (a .segments) 0 i j .1 in
             seg-short {P = P} (omega (arith, s .narrow)) (omega (arith, s .low)) (l .segments) (l .points) i (omega (arith, few .nodes, exact .nodes)) (omega (arith, b, few .segments))
-            (segment-values P cut OUTSIDE (label-most (m .width) (m .height) (m .labels) labels) i (omega (arith, b, exact .segments)))
+            (segment-values P cut OUTSIDE (label-most (m .width) (m .height) (m .bound) (m .labels) labels) i (omega (arith, b, exact .segments)))
             (point-values F (describes F) 99 (omega (arith, s .narrow)) (omega (arith, s .low)))),
         sum-linear 42 6 count (upto (a .segments) 0),
         length-upto (a .segments) 0,
@@ -216,7 +216,7 @@ textmap-short text = go (parsed text .answer) refl (parsed-words text .paints)
     go : (r : Parsed) → parsed text .answer ≡ r → PaintsMost r → length (answered r (parsed text .labels)) ≤ 53160
     go (Map w h p) e b =
         let k = parsed-map w h p text e in
-        printed-short (record { width = w; height = h; paints = p; labels = parsed text .labels })
+        printed-short (record { width = w; height = h; paints = p; bound = OUTSIDE; labels = parsed text .labels })
         (record { narrow = k .narrow; low = k .low; size = k .count; word = b }) (parsed-words text .labels)
     go TooBig e b = omega arith
     go BadText e b = omega arith

@@ -1,6 +1,7 @@
 -- What `textmap` prints for what it reads (document 01, "Segment reader and text program").
 use Prim.Native.Nat.{ℕ}
 use mathlib.Core.List.{List}
+use Rattle.rules.specs.Picture.{OUTSIDE}
 use Rattle.rules.specs.Calls.{Map as LabelledMap, cutList, counted}
 use Rattle.text.specs.Bytes.{bytes}
 use Rattle.text.specs.declared.Parsed.{Parsed}
@@ -14,7 +15,7 @@ printed m = let l = cutList m in report (m .width) (m .height) (m .paints) (coun
 
 -- the two messages are a line each
 unfoldable pub answered : Parsed → List ℕ → List ℕ
-answered (Map w h p) ls = printed (record { width = w; height = h; paints = p; labels = ls })
+answered (Map w h p) ls = printed (record { width = w; height = h; paints = p; bound = OUTSIDE; labels = ls })
 answered TooBig ls = bytes "too big\n"
 answered BadText ls = bytes "bad text\n"
 

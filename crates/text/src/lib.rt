@@ -10,7 +10,7 @@ use lines::Place;
 ghost use mathlib.Core.Path.{_≡_};
 ghost use Prim.Native.Nat.{_*_, _≤_};
 ghost use lib.ListN.{length};
-ghost use Rattle.mosaic.specs.Outcome.{mapOf};
+ghost use Rattle.calls.specs.Outcome.{mapOf};
 ghost use Rattle.text.specs.Parse.{parsed};
 ghost use Rattle.text.specs.Places.{ParsedIs};
 ghost use Rattle.text.specs.Output.{Printed};
@@ -82,7 +82,7 @@ fn print_map(s: Size, labels: &[u32], out: &mut [u8]) -> usize
     let mut references = [0u32; 2 * CRACKS];
     let mut contours = [0u32; 2 * CORNERS];
     let mut faces = [0u32; 3 * PIXELS];
-    let a = mosaic::whole(
+    let a = calls::whole(
         s,
         labels,
         &mut work,
@@ -124,6 +124,7 @@ pub fn textmap(input: &[u8], out: &mut [u8]) -> usize
                 width,
                 height,
                 paints,
+                bound: lattice::OUTSIDE,
             };
             print_map(s, &labels[..count], out)
         }

@@ -1,10 +1,10 @@
 // The lines of the answer, printed from the words of the stores. A word past the end of a store is read as 0.
 use crate::print;
+use calls::Answer;
 use lattice::Size;
-use mosaic::Answer;
 ghost use Prim.Native.Nat.{_≤_, _<_};
 ghost use lib.ListN.{length};
-ghost use Rattle.mosaic.specs.Outcome.{answerOf};
+ghost use Rattle.calls.specs.Outcome.{answerOf};
 ghost use Rattle.text.specs.Output.{Printed, fieldAt, optionalAt, referenceAt, pointAt, pieces, mapLine, countLine, nodeLine, segLine, letter, contLine, faceLines, report};
 
 // A WORD OF A STORE

@@ -10,10 +10,10 @@ use Rattle.assemble.proofs.list_islands.Statement.{statement}
 use Rattle.assemble.proofs.list_islands.Tie as tie
 
 abbrev Inv-loop : tie.InvT-loop
-Inv-loop labels work₀ paints heads ids list m₀ p₀ work m p = (p ≤ length labels) × Leaders paints heads ids list labels work₀ p m work
+Inv-loop labels work₀ paints bound heads ids list m₀ p₀ work m p = (p ≤ length labels) × Leaders paints bound heads ids list labels work₀ p m work
 
 abbrev μ-loop : tie.MeasureT-loop
-μ-loop labels work₀ paints heads ids list m₀ p₀ work m p = length labels - p
+μ-loop labels work₀ paints bound heads ids list m₀ p₀ work m p = length labels - p
 
 loop-holds : tie.Need-loop-holds Inv-loop μ-loop
 loop-holds c = (omega arith, begin (c .before .before .pre))
@@ -40,7 +40,7 @@ returns : tie.Need-returns Inv-loop μ-loop
 returns c =
     let a = c .before .before .before .before .args in
     let e : c .before .loop .p ≡ length (a .labels .now) = omega (arith, c .loop-test .left, c .before .loop .inv .0) in
-    subst (λ (p : ℕ). Leaders (a .paints) (a .heads) (a .ids) (a .list) (a .labels .now) (a .work .now) p (c .before .loop .m) (c .before .loop .work)) e (c .before .loop .inv .1)
+    subst (λ (p : ℕ). Leaders (a .paints) (a .bound) (a .heads) (a .ids) (a .list) (a .labels .now) (a .work .now) p (c .before .loop .m) (c .before .loop .work)) e (c .before .loop .inv .1)
 
 pub list-islands-spec : {M : Type 1} → statement M
 list-islands-spec =

@@ -8,7 +8,7 @@ use native.Mathlib.Decide.{ℕ-discrete}
 use native.Mathlib.Nat.{div-add-mod', suc-mul, mul-add-mod-self-right, mod-eq-of-lt, not-suc-le-zero}
 use lib.ListN.{length, getD, set, length-set}
 use lib.Seq.{getD-set-same, getD-set-other}
-use Rattle.rules.specs.Picture.{picture, OUTSIDE}
+use Rattle.rules.specs.Picture.{seen, picture, OUTSIDE}
 use Rattle.rules.specs.Face.{labelOf}
 use Rattle.rules.proofs.Islands.Joined.{Step, Joined, here, back}
 use Rattle.rules.proofs.Islands.Pixels.{labelOf-is, width-pos, column-in, right-column}
@@ -19,10 +19,10 @@ use Rattle.face.proofs.islands.Trees.{tied-back, tied-here, tied-grown}
 use Rattle.face.proofs.islands.Neighbours.{row-before, column-before, met-both, met-leaf}
 
 module _ {m : Plan} {p : ℕ} {ls work : List ℕ} (t : Linked m p ls work) (within : p < area m) where
-  pub here-label : labelOf (view m ls) p ≡ getD ls p 0
-  here-label = labelOf-is (m .width) (m .height) ls (t .forest .sizes .labels) p within
+  pub here-label : labelOf (view m ls) p ≡ seen (m .bound) (getD ls p 0)
+  here-label = labelOf-is (m .width) (m .height) (m .bound) ls (t .forest .sizes .labels) p within
 
-  pub here-inside : (v : ℕ) → v ≡ getD ls p 0 → (v ≡ OUTSIDE → ⊥) → Inside m ls p
+  pub here-inside : (v : ℕ) → v ≡ seen (m .bound) (getD ls p 0) → (v ≡ OUTSIDE → ⊥) → Inside m ls p
   here-inside v e n o = n (e ∙ sym here-label ∙ o)
 
   -- A WORD for p

@@ -7,7 +7,7 @@ use native.Mathlib.Omega.{arith}
 use native.Mathlib.Decide.{ℕ-discrete, decLt}
 use native.Mathlib.Nat.{div-eq-of-lt, add-mod-right, div-add-mod', suc-mul, mod-le}
 use lib.ListN.{getD, set}
-use Rattle.rules.specs.Picture.{picture}
+use Rattle.rules.specs.Picture.{seen, picture}
 use Rattle.rules.proofs.Islands.Joined.{Step, here, step}
 use Rattle.rules.proofs.Islands.Pixels.{labelOf-is, column-in, left-column, left-row, right-column, right-row, below-row, same-pixel}
 use Rattle.face.specs.declared.islands.Plan.{Plan}
@@ -29,13 +29,13 @@ module _ {m : Plan} {p : ℕ} {ls work : List ℕ} (l : Leaf m (suc p) ls work p
   leaf-in = omega (arith, l .forest .few)
 
   -- an equal neighbour
-  pub step-before : {q : ℕ} → Before m p q → getD ls q 0 ≡ getD ls p 0 → Step (view m ls) p q
+  pub step-before : {q : ℕ} → Before m p q → seen (m .bound) (getD ls q 0) ≡ seen (m .bound) (getD ls p 0) → Step (view m ls) p q
   unfolding picture
   step-before {q} b e =
       record {
         start = leaf-in;
         end = omega (arith, b .earlier, leaf-in);
-        same = labelOf-is (m .width) (m .height) ls (l .forest .sizes .labels) p leaf-in ∙ sym e ∙ sym (labelOf-is (m .width) (m .height) ls (l .forest .sizes .labels) q (omega (arith, b .earlier, leaf-in)));
+        same = labelOf-is (m .width) (m .height) (m .bound) ls (l .forest .sizes .labels) p leaf-in ∙ sym e ∙ sym (labelOf-is (m .width) (m .height) (m .bound) ls (l .forest .sizes .labels) q (omega (arith, b .earlier, leaf-in)));
         inside = l .inside;
         right = b .right;
         left = b .left;
@@ -44,16 +44,16 @@ module _ {m : Plan} {p : ℕ} {ls work : List ℕ} (l : Leaf m (suc p) ls work p
       }
 
   -- a neighbour with another label
-  pub other-label : {q : ℕ} → (getD ls q 0 ≡ getD ls p 0 → ⊥) → Step (view m ls) p q → ⊥
+  pub other-label : {q : ℕ} → (seen (m .bound) (getD ls q 0) ≡ seen (m .bound) (getD ls p 0) → ⊥) → Step (view m ls) p q → ⊥
   unfolding picture
-  other-label {q} n s = n (sym (labelOf-is (m .width) (m .height) ls (l .forest .sizes .labels) q (s .end)) ∙ sym (s .same) ∙ labelOf-is (m .width) (m .height) ls (l .forest .sizes .labels) p (s .start))
+  other-label {q} n s = n (sym (labelOf-is (m .width) (m .height) (m .bound) ls (l .forest .sizes .labels) q (s .end)) ∙ sym (s .same) ∙ labelOf-is (m .width) (m .height) (m .bound) ls (l .forest .sizes .labels) p (s .start))
 
   -- MEETING ONE
 
   pub met-none : {S : ℕ → Type 0} → ((q : ℕ) → S q → Step (view m ls) p q → ⊥) → Met m p ls work work S
   met-none n = record { grown = grown-none (l .forest); hits = λ q i s. absurd (n q i s) }
 
-pub met-other : {m : Plan} {p q : ℕ} {ls work : List ℕ} → Leaf m (suc p) ls work p → (getD ls q 0 ≡ getD ls p 0 → ⊥) → Met m p ls work work (λ r. r ≡ q)
+pub met-other : {m : Plan} {p q : ℕ} {ls work : List ℕ} → Leaf m (suc p) ls work p → (seen (m .bound) (getD ls q 0) ≡ seen (m .bound) (getD ls p 0) → ⊥) → Met m p ls work work (λ r. r ≡ q)
 met-other {m} {p} {q} {ls} l n = met-none l (λ z e s. other-label l n (subst (Step (view m ls) p) e s))
 
 pub met-one : {m : Plan} {p q : ℕ} {ls work work′ : List ℕ} → Grown m (suc p) ls work work′ × Tied m (suc p) ls work′ p q → Met m p ls work work′ (λ r. r ≡ q)
@@ -168,7 +168,7 @@ module _ {m : Plan} {x p : ℕ} {ls work : List ℕ} (g : Hand m x p ls work) wh
     in-north q i s = in-row ls north-over q (omega (arith, i, north-above)) s
 
     -- the one right above is equal: what is beside it is in its tree
-    pub above-equal : {work′ : List ℕ} → getD ls north 0 ≡ getD ls p 0 → Met m p ls work work′ (λ r. r ≡ north) → Met m p ls work work′ (Above m p)
+    pub above-equal : {work′ : List ℕ} → seen (m .bound) (getD ls north 0) ≡ seen (m .bound) (getD ls p 0) → Met m p ls work work′ (λ r. r ≡ north) → Met m p ls work work′ (Above m p)
     unfolding picture
     above-equal {work′} e f = record { grown = f .grown; hits = λ q i s. hit q i s }
       where
@@ -190,7 +190,7 @@ module _ {m : Plan} {x p : ℕ} {ls work : List ℕ} (g : Hand m x p ls work) wh
             } in
             tied-to (f .hits north refl north-step) (tied-grown (f .grown) (g .ties north q (north-before .earlier) (row-before (m .width) (m .height) q p (s .end) i) beside))
 
-    pub above-apart : {b c : List ℕ} → (getD ls north 0 ≡ getD ls p 0 → ⊥) → Met m p ls work b (LeftOf m north) → Met m p ls b c (RightOf m north) → Met m p ls work c (Above m p)
+    pub above-apart : {b c : List ℕ} → (seen (m .bound) (getD ls north 0) ≡ seen (m .bound) (getD ls p 0) → ⊥) → Met m p ls work b (LeftOf m north) → Met m p ls b c (RightOf m north) → Met m p ls work c (Above m p)
     above-apart {b} {c} n f h = met-as (met-both f h) (λ q i s. go q s (in-north q i s))
       where
         go : (q : ℕ) → Step (view m ls) p q → (q ≡ north) ⊎ (LeftOf m north q ⊎ RightOf m north q) → LeftOf m north q ⊎ RightOf m north q
@@ -199,7 +199,7 @@ module _ {m : Plan} {x p : ℕ} {ls work : List ℕ} (g : Hand m x p ls work) wh
 
 -- JOINING p and q, by their roots a and b
 
-module _ {m : Plan} {p q : ℕ} {ls work : List ℕ} (l : Leaf m (suc p) ls work p) (h : Before m p q) (e : getD ls q 0 ≡ getD ls p 0) where
+module _ {m : Plan} {p q : ℕ} {ls work : List ℕ} (l : Leaf m (suc p) ls work p) (h : Before m p q) (e : seen (m .bound) (getD ls q 0) ≡ seen (m .bound) (getD ls p 0)) where
   -- they name the same
   pub joined-already : number m work p ≡ number m work q → Met m p ls work work (λ r. r ≡ q)
   joined-already z =

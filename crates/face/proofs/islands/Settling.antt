@@ -10,7 +10,7 @@ use borrow.Author.Tests.{eq-eqb, ne-eqb, le-ltb}
 use lib.Dec.{ltb, eqb}
 use lib.ListN.{length, getD, set}
 use lib.Seq.{getD-set-same, getD-set-other}
-use Rattle.rules.specs.Picture.{picture, OUTSIDE, one}
+use Rattle.rules.specs.Picture.{seen, picture, OUTSIDE, one}
 use Rattle.rules.specs.Face.{labelOf, firsts, islands, pixels}
 use Rattle.rules.proofs.Ground.Lists.{count, count-le, count-suc, count-same}
 use Rattle.rules.proofs.Lattice.Frame.{picture-framed}
@@ -25,16 +25,16 @@ use Rattle.face.proofs.islands.Trees.{inside-joined}
 -- ONE PIXEL
 
 module _ {m : Plan} {q : ℕ} {ls work : List ℕ} (u : Unsettled m q ls work) where
-  label-here : labelOf (view m ls) q ≡ getD ls q 0
-  label-here = labelOf-is (m .width) (m .height) ls (u .sizes .labels) q (u .within)
+  label-here : labelOf (view m ls) q ≡ seen (m .bound) (getD ls q 0)
+  label-here = labelOf-is (m .width) (m .height) (m .bound) ls (u .sizes .labels) q (u .within)
 
-  pub settle-inside : (v : ℕ) → v ≡ getD ls q 0 → (v ≡ OUTSIDE → ⊥) → Inside m ls q
+  pub settle-inside : (v : ℕ) → v ≡ seen (m .bound) (getD ls q 0) → (v ≡ OUTSIDE → ⊥) → Inside m ls q
   settle-inside v e n o = n (e ∙ sym label-here ∙ o)
 
-  pub passed : {paints : ℕ} (v : ℕ) → v ≡ getD ls q 0 → v ≡ OUTSIDE → Settles m paints q ls work 0 work
+  pub passed : {paints : ℕ} (v : ℕ) → v ≡ seen (m .bound) (getD ls q 0) → v ≡ OUTSIDE → Settles m paints q ls work 0 work
   passed v e o = record { passes = λ _. (refl, refl); takes = λ i. absurd (i (label-here ∙ sym e ∙ o)) }
 
-  pub taken : {paints r up first : ℕ} (v : ℕ) → v ≡ getD ls q 0 → (v ≡ OUTSIDE → ⊥) → up ≡ number m work q → first ≡ number m work up → r ≡ one (ltb v paints && eqb up q)
+  pub taken : {paints r up first : ℕ} (v : ℕ) → v ≡ seen (m .bound) (getD ls q 0) → (v ≡ OUTSIDE → ⊥) → up ≡ number m work q → first ≡ number m work up → r ≡ one (ltb v paints && eqb up q)
       → Settles m paints q ls work r (set work (m .ids + q) first)
   taken {paints} {r} {up} {first} v e n eu ef er = record {
     passes = λ o. absurd (settle-inside v e n o);
@@ -198,7 +198,7 @@ module _ {m : Plan} {paints : ℕ} {ls work : List ℕ} (t : Linked m (area m) l
     unfolding picture
     number-is p l i =
         let f = getD (firsts (view m ls)) p 0 in
-        let F = picture-framed (m .width) (m .height) ls in
+        let F = picture-framed (m .width) (m .height) (m .bound) ls in
         let j = firsts-in (view m ls) F p l in
         let inside = inside-joined m ls j i in
         let in-map = joined-in l j in

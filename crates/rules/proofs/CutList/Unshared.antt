@@ -96,7 +96,7 @@ module _ {P Q : Picture} (F : Framed P) (G : Framed Q) {ss ts : List (List Dart)
 
 picture-label : (m : Map) → Accepted m → (x y : ℕ) → x < m .width → y < m .height → pictureOf m .nw (suc x) (suc y) ≡ labelAt m x y
 unfolding picture northwest
-picture-label m a x y hx hy = label-is (m .width) (m .height) (m .labels) (a .size) x y hx hy
+picture-label m a x y hx hy = label-is (m .width) (m .height) (m .bound) (m .labels) (a .size) x y hx hy
 
 pub no-shared-cut-list : (m n : Map) → Accepted m → Accepted n
     → m .width ≡ n .width → m .height ≡ n .height → m .paints ≡ n .paints
@@ -105,8 +105,8 @@ pub no-shared-cut-list : (m n : Map) → Accepted m → Accepted n
     → Alike (m .paints) (labelAt m x y) (labelAt n x y)
 unfolding cutList
 no-shared-cut-list m n a b ew eh ep k x y hx hy =
-    let F = picture-framed (m .width) (m .height) (m .labels) in
-    let G = picture-framed (n .width) (n .height) (n .labels) in
+    let F = picture-framed (m .width) (m .height) (m .bound) (m .labels) in
+    let G = picture-framed (n .width) (n .height) (n .bound) (n .labels) in
     let P = pictureOf m in
     let Q = pictureOf n in
     let p = picture-label m a x y hx hy in

@@ -8,7 +8,7 @@ use native.Mathlib.Omega.{arith}
 use lib.Dec.{ltb, eqb}
 use lib.ListN.{length, getD, length-append}
 use Rattle.rules.specs.Lists.{flat, keep}
-use Rattle.rules.specs.Picture.{Picture, label, northwest, picture, OUTSIDE, Dir, N, E, S, W, code, rightOf, Dart, sameDart, leftAt, left, right, node, aheadX, aheadY}
+use Rattle.rules.specs.Picture.{Picture, seen, label, northwest, picture, OUTSIDE, Dir, N, E, S, W, code, rightOf, Dart, sameDart, leftAt, left, right, node, aheadX, aheadY}
 use Rattle.rules.specs.Graph.{nodes, corners}
 use Rattle.rules.specs.Describes.{Describes}
 use Rattle.rules.specs.Face.{refs, firstStep, outEntry, noDart, Face, faces}
@@ -163,19 +163,23 @@ module _ (P : Picture) (ss : List (List Dart)) (most : ℕ) (f : (x y : ℕ) →
       }
 
 -- the labels of a map
-pub label-most : (w h : ℕ) (ls : List ℕ) → AtMost OUTSIDE ls → (x y : ℕ) → picture w h ls .nw x y ≤ OUTSIDE
-unfolding picture northwest label
-label-most w h ls f zero y = omega arith
-label-most w h ls f (suc x) zero = omega arith
-label-most w h ls f (suc x) (suc y) = go (ltb x w && ltb y h)
+pub label-most : (w h b : ℕ) (ls : List ℕ) → AtMost OUTSIDE ls → (x y : ℕ) → picture w h b ls .nw x y ≤ OUTSIDE
+unfolding picture northwest label seen
+label-most w h b ls f zero y = omega arith
+label-most w h b ls f (suc x) zero = omega arith
+label-most w h b ls f (suc x) (suc y) = go (ltb x w && ltb y h)
   where
     at : (l : List ℕ) → AtMost OUTSIDE l → (i : ℕ) → getD l i OUTSIDE ≤ OUTSIDE
     at [] f i = omega arith
     at (v ∷ l) f zero = f .0
     at (v ∷ l) f (suc i) = at l (f .1) i
 
-    go : (t : Bool) → cond t (getD ls (y * w + x) OUTSIDE) OUTSIDE ≤ OUTSIDE
-    go true = at ls f (y * w + x)
+    read : (t : Bool) (l : ℕ) → l ≤ OUTSIDE → elim t [ true ↦ l | false ↦ OUTSIDE ] ≤ OUTSIDE
+    read true l k = k
+    read false l k = omega arith
+
+    go : (t : Bool) → cond t (elim (ltb (getD ls (y * w + x) OUTSIDE) b) [ true ↦ getD ls (y * w + x) OUTSIDE | false ↦ OUTSIDE ]) OUTSIDE ≤ OUTSIDE
+    go true = read (ltb (getD ls (y * w + x) OUTSIDE) b) (getD ls (y * w + x) OUTSIDE) (at ls f (y * w + x))
     go false = omega arith
 
 -- POINTS, where no side is above b

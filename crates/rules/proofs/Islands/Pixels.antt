@@ -10,7 +10,7 @@ use native.Mathlib.Omega.{arith}
 use native.Mathlib.Decide.{ℕ-discrete}
 use borrow.Author.Tests.{lt-ltb}
 use lib.ListN.{length, getD}
-use Rattle.rules.specs.Picture.{Picture, picture, label, northwest, OUTSIDE}
+use Rattle.rules.specs.Picture.{Picture, picture, seen, label, northwest, OUTSIDE}
 use Rattle.rules.specs.Face.{labelOf}
 use Rattle.rules.proofs.Lattice.Frame.{Framed}
 use Rattle.rules.proofs.Ground.Lists.{at-any}
@@ -87,14 +87,14 @@ on-map P F (suc x) (suc y) o =
     let j : P .h < suc y → ⊥ = λ k. o (F .south (suc x) (suc y) k) in
     (omega arith, omega arith, omega arith, omega arith)
 
--- the labels of a map's picture are the list's
-module _ (w h : ℕ) (ls : List ℕ) (size : length ls ≡ w * h) where
-  pub label-is : (x y : ℕ) → x < w → y < h → label w h ls x y ≡ getD ls (y * w + x) 0
+-- the labels of a map's picture are the list's, as they are read
+module _ (w h b : ℕ) (ls : List ℕ) (size : length ls ≡ w * h) where
+  pub label-is : (x y : ℕ) → x < w → y < h → label w h b ls x y ≡ seen b (getD ls (y * w + x) 0)
   unfolding label
   label-is x y hx hy =
       let i : y * w + x < length ls = rw size (pixel-in w h x y hx hy) in
-      ap₂ (λ (a b : Bool). cond (a && b) (getD ls (y * w + x) OUTSIDE) OUTSIDE) (lt-ltb x w hx) (lt-ltb y h hy) ∙ at-any ls (y * w + x) OUTSIDE 0 i
+      ap₂ (λ (s t : Bool). cond (s && t) (seen b (getD ls (y * w + x) OUTSIDE)) OUTSIDE) (lt-ltb x w hx) (lt-ltb y h hy) ∙ ap (seen b) (at-any ls (y * w + x) OUTSIDE 0 i)
 
-  pub labelOf-is : (p : ℕ) → p < w * h → labelOf (picture w h ls) p ≡ getD ls p 0
+  pub labelOf-is : (p : ℕ) → p < w * h → labelOf (picture w h b ls) p ≡ seen b (getD ls p 0)
   unfolding labelOf picture northwest
-  labelOf-is p hp = label-is (p % w) (p / w) (column-in w h p hp) (row-in w h p hp) ∙ ap (λ (i : ℕ). getD ls i 0) (div-add-mod' p w)
+  labelOf-is p hp = label-is (p % w) (p / w) (column-in w h p hp) (row-in w h p hp) ∙ ap (λ (i : ℕ). seen b (getD ls i 0)) (div-add-mod' p w)

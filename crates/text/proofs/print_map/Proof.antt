@@ -1,6 +1,6 @@
 -- `text::print_map` meets its contract.
 use native.Mathlib.Omega.{arith}
-use Rattle.mosaic.specs.Outcome.{mapOf}
+use Rattle.calls.specs.Outcome.{mapOf}
 use Rattle.text.proofs.Printing.{printed-as}
 use Rattle.text.proofs.Room.{Small}
 use Rattle.text.proofs.Answers.{map-printed}

@@ -1,5 +1,6 @@
 -- `islands::join` meets its contract.
 use mathlib.Core.Path.{sym, _∙_}
+use native.Mathlib.Omega.{arith}
 use borrow.Author.Needs.{needs}
 use Rattle.face.proofs.islands.Neighbours.{joined-already, second-leaf, joined-first, joined-second}
 use Rattle.face.proofs.islands.join.Statement.{statement}
@@ -38,13 +39,25 @@ cast-work : tie.Need-cast-work
 cast-work c = search needs
 
 add-work : tie.Need-add-work
-add-work c = search needs
+add-work c =
+    let at-root2 = c .before .before .before .before in
+    let start = at-root2 .before .before .before .before .before .before .before .before .before .before .before .before .before .before .before in
+    let r = at-root2 .root2 .ensures in
+    omega (arith, start .pre .1 .0 .earlier, r .within, r .grown .forest .few, r .grown .forest .sizes .room)
 
 mul-work : tie.Need-mul-work
-mul-work c = search needs
+mul-work c =
+    let at-root2 = c .before .before .before .before in
+    let start = at-root2 .before .before .before .before .before .before .before .before .before .before .before .before .before .before .before in
+    let r = at-root2 .root2 .ensures in
+    omega (arith, start .pre .1 .0 .earlier, r .within, r .grown .forest .few, r .grown .forest .sizes .room)
 
 slice-write-work : tie.Need-slice-write-work
-slice-write-work c = search needs
+slice-write-work c =
+    let at-root2 = c .before .before .before .before in
+    let start = at-root2 .before .before .before .before .before .before .before .before .before .before .before .before .before .before .before in
+    let r = at-root2 .root2 .ensures in
+    omega (arith, start .pre .1 .0 .earlier, r .within, r .grown .forest .few, r .grown .forest .sizes .room)
 
 cast-work-2 : tie.Need-cast-work-2
 cast-work-2 c = search needs

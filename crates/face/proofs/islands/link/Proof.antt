@@ -5,8 +5,8 @@ use Rattle.face.proofs.islands.Linking.{here-label, here-inside, link-o
 use Rattle.face.proofs.islands.link.Statement.{statement}
 use Rattle.face.proofs.islands.link.Tie as tie
 
-at-requires : tie.Need-at-requires
-at-requires c κs = search needs
+read-requires : tie.Need-read-requires
+read-requires c κs = search needs
 
 add-work : tie.Need-add-work
 add-work c = search needs
@@ -23,7 +23,7 @@ same-length c = search needs
 returns : tie.Need-returns
 returns c =
     let start = c .before .before .before .before .before in
-    let s = start .pre in link-outside (s .0) (s .1 .0) (here-label (s .0) (s .1 .0) ∙ sym (c .before .before .at .ensures) ∙ c .before .if1 .taken)
+    let s = start .pre in link-outside (s .0) (s .1 .0) (here-label (s .0) (s .1 .0) ∙ sym (c .before .before .read .ensures) ∙ c .before .if1 .taken)
 
 cast-work : tie.Need-cast-work
 cast-work c = search needs
@@ -40,36 +40,36 @@ slice-write-work-2 c = search needs
 meet-left-requires : tie.Need-meet-left-requires
 meet-left-requires c κs =
     let start = c .before .before .before .before .before .before in
-    let s = start .pre in let i = here-inside (s .0) (s .1 .0) _ (c .before .before .before .at .ensures) (c .before .before .if1 .left) in (link-hand (s .0) (s .1 .0) i _ (s .1 .1) .leaf, link-over (s .0) (s .1 .0) i _ (s .1 .1))
+    let s = start .pre in let i = here-inside (s .0) (s .1 .0) _ (c .before .before .before .read .ensures) (c .before .before .if1 .left) in (link-hand (s .0) (s .1 .0) i _ (s .1 .1) .leaf, link-over (s .0) (s .1 .0) i _ (s .1 .1))
 
 meet-above-requires : tie.Need-meet-above-requires
 meet-above-requires c κs =
     let at-if1 = c .before .before .before .before .before .before in
-    let at-at = at-if1 .before in
-    let start = at-at .before .before .before in
-    let s = start .pre in let i = here-inside (s .0) (s .1 .0) _ (at-at .at .ensures) (at-if1 .if1 .left) in hand-then (link-hand (s .0) (s .1 .0) i _ (s .1 .1)) (c .before .before .before .meet-left .ensures)
+    let at-read = at-if1 .before in
+    let start = at-read .before .before .before in
+    let s = start .pre in let i = here-inside (s .0) (s .1 .0) _ (at-read .read .ensures) (at-if1 .if1 .left) in hand-then (link-hand (s .0) (s .1 .0) i _ (s .1 .1)) (c .before .before .before .meet-left .ensures)
 
 same-length-2 : tie.Need-same-length-2
 same-length-2 c =
     let at-meet-left = c .before .before .before .before .before .before in
     let at-if1 = at-meet-left .before .before .before in
-    let at-at = at-if1 .before in
-    let start = at-at .before .before .before in
-    let s = start .pre in let i = here-inside (s .0) (s .1 .0) _ (at-at .at .ensures) (at-if1 .if1 .left) in link-inside (s .0) (s .1 .0) i _ (s .1 .1) (at-meet-left .meet-left .ensures) (c .before .before .meet-above .ensures) .kept .long
+    let at-read = at-if1 .before in
+    let start = at-read .before .before .before in
+    let s = start .pre in let i = here-inside (s .0) (s .1 .0) _ (at-read .read .ensures) (at-if1 .if1 .left) in link-inside (s .0) (s .1 .0) i _ (s .1 .1) (at-meet-left .meet-left .ensures) (c .before .before .meet-above .ensures) .kept .long
 
 returns-2 : tie.Need-returns-2
 returns-2 c =
     let at-meet-left = c .before .before .before .before .before .before in
     let at-if1 = at-meet-left .before .before .before in
-    let at-at = at-if1 .before in
-    let start = at-at .before .before .before in
-    let s = start .pre in let i = here-inside (s .0) (s .1 .0) _ (at-at .at .ensures) (at-if1 .if1 .left) in link-inside (s .0) (s .1 .0) i _ (s .1 .1) (at-meet-left .meet-left .ensures) (c .before .before .meet-above .ensures)
+    let at-read = at-if1 .before in
+    let start = at-read .before .before .before in
+    let s = start .pre in let i = here-inside (s .0) (s .1 .0) _ (at-read .read .ensures) (at-if1 .if1 .left) in link-inside (s .0) (s .1 .0) i _ (s .1 .1) (at-meet-left .meet-left .ensures) (c .before .before .meet-above .ensures)
 
 pub link-spec : {M : Type 1} → statement M
 link-spec =
     tie.close
     (tie.spec
-    at-requires
+    read-requires
     add-work
     mul-work
     slice-write-work

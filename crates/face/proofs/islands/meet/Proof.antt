@@ -5,11 +5,11 @@ use Rattle.face.proofs.islands.Neighbours.{met-other}
 use Rattle.face.proofs.islands.meet.Statement.{statement}
 use Rattle.face.proofs.islands.meet.Tie as tie
 
-at-requires : tie.Need-at-requires
-at-requires c κs = search needs
+read-requires : tie.Need-read-requires
+read-requires c κs = search needs
 
-at-requires-2 : tie.Need-at-requires-2
-at-requires-2 c κs = search needs
+read-requires-2 : tie.Need-read-requires-2
+read-requires-2 c κs = search needs
 
 join-requires : tie.Need-join-requires
 join-requires c κs = search needs
@@ -23,8 +23,8 @@ returns c = search needs
 returns-2 : tie.Need-returns-2
 returns-2 c =
     let start = c .before .before .before .before .before in
-    met-other (start .pre .0) (λ z. c .if1 .left (c .before .before .at .ensures ∙ z ∙ sym (c .before .at2 .ensures)))
+    met-other (start .pre .0) (λ z. c .if1 .left (c .before .before .read .ensures ∙ z ∙ sym (c .before .read2 .ensures)))
 
 pub meet-spec : {M : Type 1} → statement M
 meet-spec =
-    tie.close (tie.spec at-requires at-requires-2 join-requires same-length returns returns-2)
+    tie.close (tie.spec read-requires read-requires-2 join-requires same-length returns returns-2)

@@ -10,17 +10,17 @@ returns c =
     let start = c .before .before .before .before in
     above-none (start .pre) (c .if1 .taken)
 
-at-requires : tie.Need-at-requires
-at-requires c κs = search needs
+read-requires : tie.Need-read-requires
+read-requires c κs = search needs
 
-at-requires-2 : tie.Need-at-requires-2
-at-requires-2 c κs = search needs
+read-requires-2 : tie.Need-read-requires-2
+read-requires-2 c κs = search needs
 
 join-requires : tie.Need-join-requires
 join-requires c κs =
     let at-if1 = c .before .before .before .before .before in
     let start = at-if1 .before .before .before .before in
-    (start .pre .leaf, (north-before (start .pre) (at-if1 .if1 .left), sym (c .before .before .before .at .ensures) ∙ c .before .if2 .taken ∙ c .before .before .at2 .ensures))
+    (start .pre .leaf, (north-before (start .pre) (at-if1 .if1 .left), sym (c .before .before .before .read .ensures) ∙ c .before .if2 .taken ∙ c .before .before .read2 .ensures))
 
 same-length : tie.Need-same-length
 same-length c = search needs
@@ -28,11 +28,11 @@ same-length c = search needs
 returns-2 : tie.Need-returns-2
 returns-2 c =
     let at-if2 = c .before .before .before .before in
-    let at-at2 = at-if2 .before in
-    let at-at = at-at2 .before in
-    let at-if1 = at-at .before .before in
+    let at-read2 = at-if2 .before in
+    let at-read = at-read2 .before in
+    let at-if1 = at-read .before .before in
     let start = at-if1 .before .before .before .before in
-    above-equal (start .pre) (at-if1 .if1 .left) (sym (at-at .at .ensures) ∙ at-if2 .if2 .taken ∙ at-at2 .at2 .ensures) (c .before .before .join .ensures)
+    above-equal (start .pre) (at-if1 .if1 .left) (sym (at-read .read .ensures) ∙ at-if2 .if2 .taken ∙ at-read2 .read2 .ensures) (c .before .before .join .ensures)
 
 meet-left-requires : tie.Need-meet-left-requires
 meet-left-requires c κs =
@@ -53,19 +53,19 @@ returns-3 : tie.Need-returns-3
 returns-3 c =
     let at-meet-left = c .before .before .before .before .before .before in
     let at-if2 = at-meet-left .before .before in
-    let at-at2 = at-if2 .before in
-    let at-at = at-at2 .before in
-    let at-if1 = at-at .before .before in
+    let at-read2 = at-if2 .before in
+    let at-read = at-read2 .before in
+    let at-if1 = at-read .before .before in
     let start = at-if1 .before .before .before .before in
-    above-apart (start .pre) (at-if1 .if1 .left) (λ z. at-if2 .if2 .left (at-at .at .ensures ∙ z ∙ sym (at-at2 .at2 .ensures))) (at-meet-left .meet-left .ensures) (c .before .before .meet-right .ensures)
+    above-apart (start .pre) (at-if1 .if1 .left) (λ z. at-if2 .if2 .left (at-read .read .ensures ∙ z ∙ sym (at-read2 .read2 .ensures))) (at-meet-left .meet-left .ensures) (c .before .before .meet-right .ensures)
 
 pub meet-above-spec : {M : Type 1} → statement M
 meet-above-spec =
     tie.close
     (tie.spec
     returns
-    at-requires
-    at-requires-2
+    read-requires
+    read-requires-2
     join-requires
     same-length
     returns-2

@@ -1,0 +1,11 @@
+pub mod Checks
+pub mod Outcomes
+pub mod Steps
+pub mod Calls
+pub mod Room
+pub mod AtOnce
+pub mod Rows
+pub mod Settled
+pub mod Called
+pub mod Tables
+pub mod Demands
