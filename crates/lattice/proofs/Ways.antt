@@ -1,16 +1,18 @@
 -- The four labels around a corner say what the definitions say.
 use Prim.Native.Nat.{ℕ, zero, suc, pred, _+_, _*_, _≤_, _<_, _%_}
 use mathlib.Core.Path.{_≡_, refl, sym, ap, _∙_}
-use mathlib.Core.Bool.{Bool, true, false, not, _&&_}
+use mathlib.Core.Bool.{Bool, true, false, not, _&&_, _||_}
 use native.Mathlib.Omega.{arith}
-use lib.Count.{ones, onesIn}
+use native.Mathlib.Decide.{ℕ-discrete}
+use lib.ListN.{getD, List·getD-eq-default}
 use lib.Dec.{eqb, leb, lit<}
 use borrow.Author.Tests.{eqb-true, eq-eqb, ne-eqb}
 use Rattle.rules.specs.Picture.{Picture, toX, toY, Dir, N, E, S, W, code, rightOf, backOf, sameDir, dart, leftAt, left, right, crack, one, degree, node, aheadX, aheadY}
-use Rattle.rules.proofs.Ground.Booleans.{of-every4}
+use Rattle.rules.proofs.Ground.Booleans.{implies, implied, of-every4}
+use Rattle.rules.proofs.Lattice.Corners.{no-single}
 use Rattle.rules.specs.Graph.{wayOn, onward, following}
 use Rattle.lattice.specs.declared.Around.{Around}
-use Rattle.lattice.specs.Around.{aroundOf, leftIn, crackIn, maskIn, degreeIn, nodeIn, wayIn, onwardIn}
+use Rattle.lattice.specs.Around.{aroundOf, leftIn, crackIn, maskIn, degreeIn, nodeIn, nodeMasks, wayIn, onwardIn}
 use Rattle.lattice.specs.Dirs.{dir}
 use Rattle.lattice.specs.declared.Size.{Size}
 use Rattle.lattice.specs.declared.Walker.{Walker}
@@ -51,15 +53,53 @@ module _ (P : Picture) (x y : ℕ) where
   unfolding onwardIn onward wayOn crack left right leftAt
   onward-in d = refl
 
--- as many bits as cracks, by computing the sixteen masks
-mask-ones : (n e s w : Bool) → ones (one n + 2 * one e + 4 * one s + 8 * one w) ≡ one n + one e + one s + one w
-unfolding ones onesIn
-mask-ones n e s w =
-    eqb-true (ones (one n + 2 * one e + 4 * one s + 8 * one w)) (one n + one e + one s + one w)
-    (of-every4 (λ n e s w. eqb (ones (one n + 2 * one e + 4 * one s + 8 * one w)) (one n + one e + one s + one w)) refl n e s w)
+-- the sixteen masks
+mask-rows : (n e s w : Bool) → leb 3 (one n + one e + one s + one w) ≡ getD nodeMasks (one n + 2 * one e + 4 * one s + 8 * one w) true
+unfolding nodeMasks
+mask-rows false false false false = refl
+mask-rows true false false false = refl
+mask-rows false true false false = refl
+mask-rows true true false false = refl
+mask-rows false false true false = refl
+mask-rows true false true false = refl
+mask-rows false true true false = refl
+mask-rows true true true false = refl
+mask-rows false false false true = refl
+mask-rows true false false true = refl
+mask-rows false true false true = refl
+mask-rows true true false true = refl
+mask-rows false false true true = refl
+mask-rows true false true true = refl
+mask-rows false true true true = refl
+mask-rows true true true true = refl
 
-pub degree-mask : (a : Around) → ones (maskIn a) ≡ degreeIn a
-degree-mask a = mask-ones (crackIn a N) (crackIn a E) (crackIn a S) (crackIn a W)
+pub node-mask : (a : Around) → nodeIn a ≡ getD nodeMasks (maskIn a) true
+node-mask a = mask-rows (crackIn a N) (crackIn a E) (crackIn a S) (crackIn a W)
+
+-- the last row, and all beyond it
+pub last-row : (m : ℕ) → 15 ≤ m → getD nodeMasks m true ≡ true
+unfolding nodeMasks
+last-row m h =
+    elim (ℕ-discrete m 15) [
+      yes e ↦ ap (λ m. getD nodeMasks m true) e
+    | no k ↦ List·getD-eq-default nodeMasks true {n = m} (omega arith)
+    ]
+
+-- one cut alone: a mask that no corner has
+abbrev pub single : ℕ → Bool
+single m = eqb m 1 || eqb m 2 || eqb m 4 || eqb m 8
+
+single-one : (n e s w : Bool) → single (one n + 2 * one e + 4 * one s + 8 * one w) ≡ true → one n + one e + one s + one w ≡ 1
+single-one n e s w k =
+    eqb-true (one n + one e + one s + one w) 1
+    (implied (single (one n + 2 * one e + 4 * one s + 8 * one w)) (eqb (one n + one e + one s + one w) 1)
+    (of-every4 (λ n e s w. implies (single (one n + 2 * one e + 4 * one s + 8 * one w)) (eqb (one n + one e + one s + one w) 1)) refl n e s w)
+    k)
+
+pub no-mask-of-one : (P : Picture) (x y : ℕ) → single (maskIn (aroundOf P x y)) ≡ true → ⊥
+no-mask-of-one P x y k =
+    let a = aroundOf P x y in
+    no-single P x y (sym (degree-in P x y) ∙ single-one (crackIn a N) (crackIn a E) (crackIn a S) (crackIn a W) k)
 
 -- a fact of each of the four directions
 pub by-four : (Q : ℕ → Type 0) → Q 0 → Q 1 → Q 2 → Q 3 → (d : ℕ) → d < 4 → Q d

@@ -5,7 +5,7 @@ ghost use Rattle.rules.specs.Picture.{one as oneIf, seen as seenLabel, label as
 ghost use Rattle.lattice.specs.Size.{Small, Sides, Map, Corner, pic};
 ghost use Rattle.lattice.specs.Planes.{plane, place};
 ghost use Rattle.lattice.specs.Dirs.{dir};
-ghost use Rattle.lattice.specs.Around.{aroundOf, leftIn, crackIn, maskIn, degreeIn, nodeIn, onwardIn};
+ghost use Rattle.lattice.specs.Around.{aroundOf, leftIn, crackIn, maskIn, nodeIn, onwardIn};
 ghost use Rattle.lattice.specs.Walker.{Ahead, movedOf, stepIn};
 
 pub const OUTSIDE: u32 = 4294967295;
@@ -155,18 +155,30 @@ impl Around {
             + 8 * one(self.sw != self.nw)
     }
 
-    // How many cracks meet.
-    pub fn degree(self) -> u32
-        ensures { λ r. ⌜ r ≡ degreeIn self ⌝ }
-    {
-        u32::count_ones(self.edge_mask())
-    }
-
-    // Whether three or four do.
+    // Whether the corner is a node, by its mask, row by row: three or four cuts meet. No corner has a mask of one cut alone, since the
+    // labels around it come back to where they began (`no-single`, `no-mask-of-one`).
     pub fn node(self) -> bool
         ensures { λ r. ⌜ r ≡ nodeIn self ⌝ }
     {
-        3 <= self.degree()
+        let mask = self.edge_mask();
+        match mask {
+            0 => false, // no cut
+            1 => false, // N alone: at no corner
+            2 => false, // E alone: at no corner
+            3 => false, // N and E
+            4 => false, // S alone: at no corner
+            5 => false, // N and S
+            6 => false, // E and S
+            7 => true, // N, E and S
+            8 => false, // W alone: at no corner
+            9 => false, // N and W
+            10 => false, // E and W
+            11 => true, // N, E and W
+            12 => false, // S and W
+            13 => true, // N, S and W
+            14 => true, // E, S and W
+            _ => true, // all four
+        }
     }
 
     // The first crack other than the way back, for a walk that arrives with the heading d.
