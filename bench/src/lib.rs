@@ -107,6 +107,9 @@ pub struct Lent {
 }
 
 /// Words of a record in each of the six stores.
+/// Each label read as it is.
+const PLAIN: u32 = 0;
+
 const RECORD: [usize; 6] = [6, 8, 2, 1, 2, 3];
 
 impl Lent {
@@ -153,6 +156,7 @@ impl Lent {
         // SAFETY: a store of its own and the borrowed labels.
         unsafe {
             ffi::mosaic_size(
+                PLAIN,
                 map.side,
                 map.side,
                 map.paints,
@@ -173,6 +177,7 @@ impl Lent {
         // SAFETY: stores of their own and the borrowed labels.
         unsafe {
             ffi::mosaic_graph(
+                PLAIN,
                 map.side,
                 map.side,
                 map.paints,
@@ -199,6 +204,7 @@ impl Lent {
         // SAFETY: stores of their own and the borrowed labels.
         unsafe {
             ffi::mosaic_whole(
+                PLAIN,
                 map.side,
                 map.side,
                 map.paints,

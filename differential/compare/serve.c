@@ -3,7 +3,7 @@
  * The archive is for x86-64 alone, so this is a program of its own, which an emulator can run where the processor is another.
  * Arguments: the number of an open file, and its length in words. Standard input brings numbers of calls, one word each; the calls are
  * the rows at the start of the file. Standard output gets one byte when they are made.
- * A row has ROW words: call, width, height, paints, then place and length of labels, work and six stores, then the answer.
+ * A row has ROW words: call, width, height, paints, then place and length of labels, work and six stores, then the answer and the mode.
  */
 #include <stdint.h>
 #include <stdlib.h>
@@ -12,24 +12,24 @@
 
 #include "mosaic.h"
 
-enum { ROW = 32, ANSWER = 20 };
+enum { ROW = 32, ANSWER = 20, MODE = 28 };
 
 /* The k-th lent slice of a row, as the library takes it. */
 #define SLICE(k) words + row[4 + 2 * (k)], row[5 + 2 * (k)]
 
 static void make(uint32_t *words, uint32_t *row)
 {
-    uint32_t w = row[1], h = row[2], paints = row[3];
+    uint32_t mode = row[MODE], w = row[1], h = row[2], paints = row[3];
     mosaic_answer *answer = (mosaic_answer *)(row + ANSWER);
     switch (row[0]) {
     case 0:
-        mosaic_size(w, h, paints, SLICE(0), SLICE(1), answer);
+        mosaic_size(mode, w, h, paints, SLICE(0), SLICE(1), answer);
         break;
     case 1:
-        mosaic_graph(w, h, paints, SLICE(0), SLICE(1), SLICE(2), SLICE(3), SLICE(4), answer);
+        mosaic_graph(mode, w, h, paints, SLICE(0), SLICE(1), SLICE(2), SLICE(3), SLICE(4), answer);
         break;
     default:
-        mosaic_whole(w, h, paints, SLICE(0), SLICE(1), SLICE(2), SLICE(3), SLICE(4), SLICE(5), SLICE(6), SLICE(7), answer);
+        mosaic_whole(mode, w, h, paints, SLICE(0), SLICE(1), SLICE(2), SLICE(3), SLICE(4), SLICE(5), SLICE(6), SLICE(7), answer);
     }
 }
 

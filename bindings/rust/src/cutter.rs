@@ -1,5 +1,6 @@
 //! Lends the library its stores and calls it.
 
+use std::alloc::{alloc_zeroed, Layout};
 use std::fmt;
 
 use crate::ffi::{self, Answer};
@@ -13,6 +14,26 @@ pub struct Map<'a> {
     pub height: u32,
     pub paints: u32,
     pub labels: &'a [u32],
+}
+
+/// How a map's labels are read.
+#[derive(Clone, Copy, Debug, Default, PartialEq, Eq, Hash)]
+pub enum Mode {
+    /// Each as it is: a cut lies between any two labels that differ, painted or not.
+    #[default]
+    Plain,
+    /// Every unpainted label as [`OUTSIDE`](crate::RegionId::OUTSIDE): no cut goes through waste.
+    NoWaste,
+}
+
+impl Mode {
+    /// The library's word for it.
+    pub fn word(self) -> u32 {
+        match self {
+            Mode::Plain => 0,
+            Mode::NoWaste => 1,
+        }
+    }
 }
 
 /// Why there is no cut list.
@@ -49,16 +70,21 @@ impl fmt::Display for Refusal {
 
 impl std::error::Error for Refusal {}
 
-/// The cut list of a map.
+/// The cut list of a map, each label read as it is.
 pub fn cut(map: Map<'_>) -> Result<CutList, Refusal> {
     Cutter::new().cut(map)
 }
 
+/// The cut list of a map, its labels read in a mode.
+pub fn cut_in(mode: Mode, map: Map<'_>) -> Result<CutList, Refusal> {
+    Cutter::new().cut_in(mode, map)
+}
+
 /// Cuts one map after another and keeps the work store between them.
-#[derive(Default)]
+#[derive(Debug, Default)]
 pub struct Cutter {
-    /// Room only: its length stays 0, since what a work store holds before and after a call says nothing.
-    work: Vec<u32>,
+    /// What it holds before and after a call says nothing.
+    work: Vec<[u32; 1]>,
 }
 
 impl Cutter {
@@ -66,51 +92,61 @@ impl Cutter {
         Cutter::default()
     }
 
-    /// The cut list of a map.
+    /// The cut list of a map, each label read as it is.
+    pub fn cut(&mut self, map: Map<'_>) -> Result<CutList, Refusal> {
+        self.cut_in(Mode::Plain, map)
+    }
+
+    /// The cut list of a map, its labels read in a mode.
     ///
     /// The library is called once, with stores that have room for any map of these sides. Sizing first counts the map twice: that
     /// took 1.15 to 2.04 times as long (solid, blobs, stripes, noise, checker and all-distinct maps of 64² to 4096²), and so does a
     /// guess that is too small. The room costs address space, about 160 bytes for a pixel, but no memory: pages that no record
     /// reaches are never touched, and are given back. Where so much cannot be reserved, the first call only counts.
-    pub fn cut(&mut self, map: Map<'_>) -> Result<CutList, Refusal> {
+    pub fn cut_in(&mut self, mode: Mode, map: Map<'_>) -> Result<CutList, Refusal> {
         let (width, height) = (map.width as usize, map.height as usize);
         if width.max(height) <= LONGEST_SIDE {
-            reserve(&mut self.work, 8 * (width + 1) * (height + 1))?;
+            let words = 8 * (width + 1) * (height + 1);
+            if self.work.len() < words {
+                self.work = zeroed(words)?;
+            }
         }
         let mut stores = roomy(width, height).unwrap_or_default();
-        let mut answer = self.whole(map, &mut stores);
+        let mut answer = self.whole(mode, map, &mut stores);
         if answer.number > 3 {
             stores = exact(&answer)?;
-            answer = self.whole(map, &mut stores);
+            answer = self.whole(mode, map, &mut stores);
         }
         match answer.number {
-            0 => Ok(CutList::new(stores.trimmed(), answer)),
+            0 => Ok(CutList::new(stores.trimmed(&answer), answer)),
             1 => Err(Refusal::SideTooLong),
             2 => Err(Refusal::WrongLabelCount),
             number => unreachable!("number {} with room for all records", number),
         }
     }
 
-    /// The call itself. On 0 the stores have the lengths of the answer, otherwise they stay empty.
-    fn whole(&mut self, map: Map<'_>, stores: &mut Stores) -> Answer {
+    /// The call itself.
+    fn whole(&mut self, mode: Mode, map: Map<'_>, stores: &mut Stores) -> Answer {
         let mut answer = Answer::default();
+        let (work, work_len) = lent(&mut self.work);
         let (nodes, nodes_len) = lent(&mut stores.nodes);
         let (segments, segments_len) = lent(&mut stores.segments);
         let (points, points_len) = lent(&mut stores.points);
         let (references, references_len) = lent(&mut stores.references);
         let (contours, contours_len) = lent(&mut stores.contours);
         let (faces, faces_len) = lent(&mut stores.faces);
-        // SAFETY: each pointer and length is the room of a vector of its own, aligned for words, and so is the answer: no two overlap,
-        // and the labels are borrowed. The library's promise holds for stores of any length, whatever words they hold.
+        // SAFETY: each pointer and length is a vector of its own, aligned for words, and so is the answer: no two overlap, and the labels
+        // are borrowed. The library's promise holds for stores of any length, whatever words they hold.
         unsafe {
             ffi::mosaic_whole(
+                mode.word(),
                 map.width,
                 map.height,
                 map.paints,
                 map.labels.as_ptr(),
                 map.labels.len(),
-                self.work.as_mut_ptr(),
-                self.work.capacity(),
+                work,
+                work_len,
                 nodes,
                 nodes_len,
                 segments,
@@ -126,17 +162,6 @@ impl Cutter {
                 &mut answer,
             );
         }
-        if answer.number == 0 {
-            // SAFETY: after 0 each store had room for its count of records, and these are written.
-            unsafe {
-                stores.nodes.set_len(answer.nodes as usize);
-                stores.segments.set_len(answer.segments as usize);
-                stores.points.set_len(answer.points as usize);
-                stores.references.set_len(answer.references as usize);
-                stores.contours.set_len(answer.contours as usize);
-                stores.faces.set_len(answer.faces as usize);
-            }
-        }
         answer
     }
 }
@@ -144,21 +169,26 @@ impl Cutter {
 /// The longest side that the library takes.
 const LONGEST_SIDE: usize = 16_384;
 
-/// The room of an empty store of records, as the library takes it: a pointer and a length in words.
-fn lent<const N: usize>(store: &mut Vec<[u32; N]>) -> (*mut u32, usize) {
-    (store.as_mut_ptr().cast(), store.capacity() * N)
+/// A store of records, as the library takes it: a pointer and a length in words.
+pub(crate) fn lent<const N: usize>(store: &mut [[u32; N]]) -> (*mut u32, usize) {
+    (store.as_mut_ptr().cast(), store.len() * N)
 }
 
-fn reserve<T>(store: &mut Vec<T>, records: usize) -> Result<(), Refusal> {
-    store
-        .try_reserve_exact(records)
-        .map_err(|_| Refusal::NoMemory)
-}
-
-fn room<T>(records: usize) -> Result<Vec<T>, Refusal> {
-    let mut store = Vec::new();
-    reserve(&mut store, records)?;
-    Ok(store)
+/// A store of zeroed records. The system hands such memory out page by page, when it is first written, so room that no record reaches
+/// costs address space alone.
+pub(crate) fn zeroed<const N: usize>(records: usize) -> Result<Vec<[u32; N]>, Refusal> {
+    let layout = Layout::array::<[u32; N]>(records).map_err(|_| Refusal::NoMemory)?;
+    if layout.size() == 0 {
+        return Ok(Vec::new());
+    }
+    // SAFETY: the layout is not empty, it is that of `records` records, and zero words are records.
+    unsafe {
+        let start = alloc_zeroed(layout);
+        if start.is_null() {
+            return Err(Refusal::NoMemory);
+        }
+        Ok(Vec::from_raw_parts(start.cast(), records, records))
+    }
 }
 
 /// Stores for any map of these sides, by the bounds that the library goes by: with so much room it counts nothing first. None where a
@@ -171,23 +201,23 @@ fn roomy(width: usize, height: usize) -> Result<Stores, Refusal> {
     let pixels = width * height;
     let cracks = 2 * pixels + width + height;
     Ok(Stores {
-        nodes: room(corners)?,
-        segments: room(cracks)?,
-        points: room(2 * cracks)?,
-        references: room(2 * cracks)?,
-        contours: room(corners)?,
-        faces: room(pixels)?,
+        nodes: zeroed(corners)?,
+        segments: zeroed(cracks)?,
+        points: zeroed(2 * cracks)?,
+        references: zeroed(2 * cracks)?,
+        contours: zeroed(corners)?,
+        faces: zeroed(pixels)?,
     })
 }
 
 /// Stores for the counts of an answer.
 fn exact(answer: &Answer) -> Result<Stores, Refusal> {
     Ok(Stores {
-        nodes: room(answer.nodes as usize)?,
-        segments: room(answer.segments as usize)?,
-        points: room(answer.points as usize)?,
-        references: room(answer.references as usize)?,
-        contours: room(answer.contours as usize)?,
-        faces: room(answer.faces as usize)?,
+        nodes: zeroed(answer.nodes as usize)?,
+        segments: zeroed(answer.segments as usize)?,
+        points: zeroed(answer.points as usize)?,
+        references: zeroed(answer.references as usize)?,
+        contours: zeroed(answer.contours as usize)?,
+        faces: zeroed(answer.faces as usize)?,
     })
 }

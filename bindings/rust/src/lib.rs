@@ -24,7 +24,7 @@ mod cutter;
 pub mod ffi;
 mod list;
 
-pub use cutter::{cut, Cutter, Map, Refusal};
+pub use cutter::{cut, cut_in, Cutter, Map, Mode, Refusal};
 pub use list::{
     Contour, CutList, Direction, Face, Node, NodeId, Point, RegionId, SegRef, Segment, SegmentId,
 };

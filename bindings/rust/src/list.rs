@@ -102,16 +102,21 @@ pub(crate) struct Stores {
 }
 
 impl Stores {
-    /// The same records without the room behind them.
-    pub fn trimmed(mut self) -> Stores {
-        self.nodes.shrink_to_fit();
-        self.segments.shrink_to_fit();
-        self.points.shrink_to_fit();
-        self.references.shrink_to_fit();
-        self.contours.shrink_to_fit();
-        self.faces.shrink_to_fit();
+    /// The records that an answer counts, without the room behind them.
+    pub fn trimmed(mut self, answer: &Answer) -> Stores {
+        trim(&mut self.nodes, answer.nodes);
+        trim(&mut self.segments, answer.segments);
+        trim(&mut self.points, answer.points);
+        trim(&mut self.references, answer.references);
+        trim(&mut self.contours, answer.contours);
+        trim(&mut self.faces, answer.faces);
         self
     }
+}
+
+fn trim<T>(store: &mut Vec<T>, count: u32) {
+    store.truncate(count as usize);
+    store.shrink_to_fit();
 }
 
 /// The nodes, segments and faces of a map.

@@ -222,13 +222,13 @@ impl Tally {
 
     // With the next map of the data compared.
     fn map(self, data: &[u8]) -> Tally {
-        let mut head = [0u32; 3];
-        let t = self.read(data, &mut head, 3);
+        let mut head = [0u32; 4];
+        let t = self.read(data, &mut head, 4);
         let s = Size {
             width: head[0],
             height: head[1],
             paints: head[2],
-            bound: lattice::OUTSIDE,
+            bound: head[3],
         };
         let n = area(s.width as usize, s.height as usize);
         let mut labels = [0u32; 121];

@@ -1,7 +1,7 @@
 //! The Rust's answers as data, for the program `replay` to run through the library where no Rust is at hand.
 //!
 //! A word is coded in one byte where it is below 254; 254 is 4294967295; 255 stands before four bytes, the lowest first. The data is the
-//! number of maps, then for each its width, height, paint count and labels, the seven counts, and the words of the six stores.
+//! number of maps, then for each its width, height, paint count, bound and labels, the seven counts, and the words of the six stores.
 
 use std::error::Error;
 use std::fs;
@@ -25,6 +25,8 @@ pub fn write(file: &Path) -> Result<usize, Box<dyn Error>> {
     let mut random = Random(2);
     maps.extend((0..500).map(|_| random.map(SIDE)));
     maps.retain(|map| !map.labels.contains(&OLD));
+    let cleared: Vec<Map> = maps.iter().filter_map(Map::without_waste).collect();
+    maps.extend(cleared);
     let mut data = Vec::new();
     put(&mut data, maps.len() as u32);
     for map in &maps {
@@ -35,8 +37,8 @@ pub fn write(file: &Path) -> Result<usize, Box<dyn Error>> {
 }
 
 fn put_map(data: &mut Vec<u8>, map: &Map) {
-    let list = oracle::cut_list(map.width, map.height, map.paints, &map.labels);
-    let head = [map.width, map.height, map.paints];
+    let list = map.cut_list();
+    let head = [map.width, map.height, map.paints, map.bound];
     let parts = [head.as_slice(), &map.labels, &list.counts];
     for words in parts.into_iter().chain(list.stores()) {
         for &word in words {
@@ -62,6 +64,7 @@ fn worked() -> Vec<Map> {
         width,
         height,
         paints,
+        bound: OUTSIDE,
         labels: labels.to_vec(),
     };
     let o = OUTSIDE;

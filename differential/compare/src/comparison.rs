@@ -115,6 +115,9 @@ impl Comparison {
     /// Judges a map, and shows every few seconds how far it is.
     fn judge(&mut self, map: &Map, depth: Depth, what: &str) {
         self.judge.judge(map, depth);
+        if let Some(map) = map.without_waste() {
+            self.judge.judge(&map, depth);
+        }
         if self.shown.elapsed() > Duration::from_secs(5) {
             self.say(&format!("{what} .."));
         }

@@ -136,13 +136,14 @@ fn theorem(text: &mut String, i: usize, map: &Map, unfolding: &str) -> Result<()
         contours,
         faces,
         counts,
-    } = oracle::cut_list(map.width, map.height, map.paints, &map.labels);
+    } = map.cut_list();
     writeln!(
         text,
-        "pub map{i} : cutList (record {{ width = {}; height = {}; paints = {}; labels = {} }}) ≡ record {{",
+        "pub map{i} : cutList (record {{ width = {}; height = {}; paints = {}; bound = {}; labels = {} }}) ≡ record {{",
         map.width,
         map.height,
         map.paints,
+        map.bound,
         list(&map.labels)
     )?;
     let stores = [nodes, segments, points, references, contours, faces];

@@ -8,7 +8,7 @@ use std::rc::Rc;
 use oracle::CutList;
 
 use crate::lent::Lent;
-use crate::library::{Library, ANSWER, ROW, WORDS};
+use crate::library::{Library, ANSWER, MODE, ROW, WORDS};
 use crate::map::Map;
 use crate::setup::{expected, setups, Depth, Setup, SIDE};
 
@@ -286,6 +286,7 @@ fn put_row(row: &mut [u32], setup: &Setup, slices: &[Lent; 8]) {
         row[5 + 2 * k] = lent.len as u32;
     }
     row[ANSWER..].fill(0xdead_beef);
+    row[MODE] = setup.mode;
 }
 
 /// The Rust's cut list. It is not asked about sides that the port refuses.
@@ -293,6 +294,6 @@ fn the_rust(map: &Map) -> Result<CutList, String> {
     if map.width > SIDE || map.height > SIDE {
         return Ok(CutList::default());
     }
-    panic::catch_unwind(|| oracle::cut_list(map.width, map.height, map.paints, &map.labels))
+    panic::catch_unwind(|| map.cut_list())
         .map_err(|_| "the Rust panics".to_owned())
 }

@@ -23,9 +23,10 @@ const SHARED_NO_RESERVE: c_int = 0x4001;
 
 /// Words that are shared: enough for all stores of a 4096×4096 map whose labels are all distinct. Memory is taken only where it is written.
 pub const WORDS: usize = 950_000_000;
-/// Words of a call's row, and where its answer stands.
+/// Words of a call's row, and where its answer and its mode stand.
 pub const ROW: usize = 32;
 pub const ANSWER: usize = 20;
+pub const MODE: usize = 28;
 
 pub struct Library {
     file: File,

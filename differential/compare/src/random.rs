@@ -44,6 +44,7 @@ impl Random {
             width,
             height,
             paints,
+            bound: OUTSIDE,
             labels,
         }
     }

@@ -33,6 +33,7 @@ pub struct Setup {
     pub call: Call,
     pub width: u32,
     pub height: u32,
+    pub mode: u32,
     pub paints: u32,
     pub labels: usize,
     pub work: usize,
@@ -43,8 +44,9 @@ impl fmt::Debug for Setup {
     fn fmt(&self, f: &mut fmt::Formatter) -> fmt::Result {
         write!(
             f,
-            "{:?} of {} by {}, {} paints, {} labels, {} work words, stores of {:?} words",
+            "{:?} in mode {} of {} by {}, {} paints, {} labels, {} work words, stores of {:?} words",
             self.call,
+            self.mode,
             self.width,
             self.height,
             self.paints,
@@ -131,6 +133,7 @@ pub fn setups(map: &Map, list: &CutList, depth: Depth) -> Vec<Setup> {
             call,
             width: map.width,
             height: map.height,
+            mode: map.mode(),
             paints: map.paints,
             labels: map.labels.len(),
             work: work_words(map.width.min(SIDE), map.height.min(SIDE)),
