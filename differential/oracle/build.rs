@@ -1,7 +1,7 @@
 //! Lays the unchanged files of the Rust and our stubs out as one module tree, and stops where a file is not the one that was ported.
 //!
-//! The folder of the Rust is `MOSAIC_RUST`, or `../shared/docs/src` beside the repository. Its files are copied into the build's own
-//! folder, where their hashes are compared with SHA256SUMS, so what is hashed is what is compiled.
+//! The folder of the Rust is `MOSAIC_RUST`: vtracer at the commit that NOTICE names. Its files are copied into the build's own folder,
+//! where their hashes are compared with SHA256SUMS, so what is hashed is what is compiled.
 
 use std::error::Error;
 use std::path::{Path, PathBuf};
@@ -16,7 +16,7 @@ fn main() -> Result<(), Box<dyn Error>> {
     let out = PathBuf::from(env::var("OUT_DIR")?);
     let tree = out.join("vtracer");
     let sums = here.join("SHA256SUMS");
-    let rust = folder(&here).join("crates/vtracer/src");
+    let rust = folder()?.join("crates/vtracer/src");
 
     for name in hashed(&sums)? {
         copy(&rust, &tree, &name)?;
@@ -35,11 +35,11 @@ fn main() -> Result<(), Box<dyn Error>> {
     Ok(())
 }
 
-fn folder(here: &Path) -> PathBuf {
-    match env::var_os("MOSAIC_RUST") {
-        Some(folder) => PathBuf::from(folder),
-        None => here.join("../../../shared/docs/src"),
-    }
+fn folder() -> Result<PathBuf, Box<dyn Error>> {
+    let folder = env::var_os("MOSAIC_RUST").ok_or(
+        "MOSAIC_RUST names no folder: it is that of vtracer (visioncortex) at commit e71343fbcb, which has crates/vtracer/src",
+    )?;
+    Ok(PathBuf::from(folder))
 }
 
 /// The names in the list of hashes: every file that must be unchanged.
