@@ -1,21 +1,18 @@
 -- The assembly step by step: what each call asks of the work words that the ones before have left.
 use Prim.Native.Nat.{ℕ, _+_, _*_, _-_, _≤_, _<_}
 use mathlib.Core.Path.{_≡_, sym, ap, subst, _∙_}
-use mathlib.Core.Bool.{_&&_}
 use mathlib.Core.Logic.{_⊎_, inl, inr}
 use mathlib.Core.List.{List, [], map, map-map, map-id, List·Memᴰ as In, Memᴰ·of-map as of-map}
 use native.Mathlib.Omega.{arith}
 use native.Mathlib.Nat.{mul-assoc}
-use native.Mathlib.Decide.{decLt}
-use lib.Dec.{eqb, ltb}
+use lib.Dec.{eqb}
 use lib.ListN.{length, getD, replicate, length-replicate}
 use lib.Seq.{sets}
-use borrow.Author.Tests.{le-ltb}
 use Rattle.rules.specs.Lists.{keep, upto}
-use Rattle.rules.specs.Picture.{Picture, seen, picture, OUTSIDE, Dart}
-use Rattle.rules.specs.Face.{pixels, labelOf, firsts, contours, islands, islandOf, face, faces}
+use Rattle.rules.specs.Picture.{Picture, picture, OUTSIDE, Dart}
+use Rattle.rules.specs.Face.{labelOf, firsts, contours, islands, islandOf, face, faces}
 use Rattle.rules.specs.Records.{contoursOf, NONE}
-use Rattle.rules.proofs.Ground.Lists.{in-at, flat-in, keep-in, keep-few, upto-in, length-upto, at-map}
+use Rattle.rules.proofs.Ground.Lists.{in-at, flat-in, keep-in, keep-same, keep-few, upto-in, length-upto, at-map}
 use Rattle.rules.proofs.Ground.Pigeonhole.{rearranged-length}
 use Rattle.rules.proofs.Lattice.Frame.{Framed}
 use Rattle.rules.proofs.Tracing.Counts.{segment-count, crack-count}
@@ -42,9 +39,10 @@ use Rattle.assemble.specs.Stage.{Ready, Finds}
 use Rattle.assemble.specs.Groups.{leads, Pages, Leaders, Loose, belongs, members, Threads}
 use Rattle.assemble.specs.Writing.{Fits, Gathered, nothing, Ordered}
 use Rattle.assemble.specs.Assembly.{Standing}
-use Rattle.assemble.proofs.Lists.{keep-same, keep-numbers, length-rearranged}
+use Rattle.assemble.proofs.Lists.{keep-numbers, length-rearranged}
 use Rattle.assemble.proofs.Changes.{changed-then, outside-in}
 use Rattle.assemble.proofs.Trails.{along-same, end-in, strung-same}
+use Rattle.assemble.proofs.Leaders.{island-leaders}
 use Rattle.assemble.proofs.Readings.{contour-starts, contour-island, island-first}
 
 module _ {s : Size} {ls nodes segs points : List ℕ} {n : ℕ} {work : List ℕ} {ss : List (List Dart)} (M : Map s ls) (b : s .paints ≤ OUTSIDE) (g : Standing s ls nodes segs points n work ss) where
@@ -137,22 +135,8 @@ module _ {s : Size} {ls nodes segs points : List ℕ} {n : ℕ} {work : List ℕ
         island₃ : {k : ℕ} → k < length cs → islandIn s segs points work₃ (5 * C) (firstOf (getD cs k [])) ≡ islandOf P ss (getD cs k [])
         island₃ h = contour-island M (g .drawn) (g .pointed) b h work₃ (5 * C) (numbers work₃ used₃)
 
-        leads-same : (p : ℕ) → p < s .width * s .height → leads (s .paints) (s .bound) (5 * C) ls work₂ p ≡ (ltb (labelOf P p) (s .paints) && eqb (getD (firsts P) p 0) p)
-        leads-same p h = go (decLt (labelOf P p) (s .paints))
-          where
-            own : labelOf P p ≡ seen (s .bound) (getD ls p 0)
-            own = labelOf-is (s .width) (s .height) (s .bound) ls (M .count) p h
-
-            go : Dec (labelOf P p < s .paints) → leads (s .paints) (s .bound) (5 * C) ls work₂ p ≡ (ltb (labelOf P p) (s .paints) && eqb (getD (firsts P) p 0) p)
-            go (yes i) = rw own (ap (λ v. ltb (seen (s .bound) (getD ls p 0)) (s .paints) && eqb v p) (numbers work₂ used₂ p h (λ e. omega arith)))
-            go (no i) = rw (own, le-ltb (seen (s .bound) (getD ls p 0)) (s .paints) (omega (arith, own)))
-
         leaders-are : keep (leads (s .paints) (s .bound) (5 * C) ls work₂) (upto (length ls) 0) ≡ islands P (s .paints)
-        unfolding islands pixels picture
-        leaders-are =
-            ap (λ n. keep (leads (s .paints) (s .bound) (5 * C) ls work₂) (upto n 0)) (M .count)
-            ∙ keep-same (leads (s .paints) (s .bound) (5 * C) ls work₂) (λ p. ltb (labelOf P p) (s .paints) && eqb (getD (firsts P) p 0) p) (upto (s .width * s .height) 0)
-            (λ p i. leads-same p (let u = upto-in (s .width * s .height) 0 p i in omega arith))
+        leaders-are = island-leaders M b (5 * C) work₂ (numbers work₂ used₂)
 
         islands-few : m ≤ s .width * s .height
         islands-few =

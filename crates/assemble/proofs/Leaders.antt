@@ -1,19 +1,25 @@
 -- The first pixels of the painted islands, listed one after the other.
-use Prim.Native.Nat.{ℕ, suc, _+_, _<_, _≤_}
+use Prim.Native.Nat.{ℕ, suc, _+_, _*_, _<_, _≤_}
 use mathlib.Core.Path.{_≡_, refl, sym, ap, subst, _∙_}
-use mathlib.Core.Bool.{Bool, true, false}
+use mathlib.Core.Bool.{Bool, true, false, _&&_}
 use mathlib.Core.Logic.{inl, inr, ⊎-elim}
 use mathlib.Core.List.{List, [], _∷_, _++_, append-nil, List·Memᴰ as In, List·Memᴰ·not-nil as not-nil, List·Memᴰ·eq-of-singleton as eq-of-singleton, List·Memᴰ·append-cases as in-cases}
 use native.Mathlib.Omega.{arith}
+use native.Mathlib.Decide.{decLt}
+use lib.Dec.{eqb, ltb}
 use lib.ListN.{length, getD, set, length-set}
 use lib.Seq.{getD-set-same, getD-set-other}
 use borrow.Author.Tests.{lt-ltb, le-ltb, eq-eqb, ne-eqb}
-use Rattle.rules.specs.Picture.{seen}
 use Rattle.rules.specs.Lists.{keep, upto}
-use Rattle.rules.proofs.Ground.Lists.{keep-append, keep-in, upto-in, upto-snoc}
+use Rattle.rules.specs.Picture.{OUTSIDE, seen, picture}
+use Rattle.rules.specs.Face.{pixels, labelOf, firsts, islands}
+use Rattle.rules.proofs.Ground.Lists.{keep-append, keep-in, keep-same, upto-in, upto-snoc}
+use Rattle.rules.proofs.Islands.Pixels.{labelOf-is}
 use Rattle.store.specs.Words.{part}
 use Rattle.store.proofs.Parts.{part-append, part-same}
 use Rattle.rules.specs.Records.{NONE}
+use Rattle.lattice.specs.declared.Size.{Size}
+use Rattle.lattice.specs.Size.{Map, pic}
 use Rattle.assemble.specs.Groups.{leads, Pages, Leaders}
 use Rattle.assemble.proofs.Changes.{changed-none, changed-then, set-first, set-second}
 
@@ -86,3 +92,23 @@ module _ {paints bound heads ids list : ℕ} {ls work₀ : List ℕ} where
             before q j =
                 let u = upto-in p 0 q (keep-in leader (upto p 0) q j .0) in
                 other (heads + q) (λ z. omega (arith, t .few, t .pages .apart, t .pages .behind)) (λ z. omega arith) ∙ t .empty q j
+
+-- OF A MAP whose pixels have the numbers of their islands they are the painted islands
+module _ {s : Size} {ls : List ℕ} (M : Map s ls) (b : s .paints ≤ OUTSIDE) (ids : ℕ) (work : List ℕ)
+    (numbers : (p : ℕ) → p < s .width * s .height → (labelOf (pic s ls) p ≡ OUTSIDE → ⊥) → getD work (ids + p) 0 ≡ getD (firsts (pic s ls)) p 0) where
+  leads-same : (p : ℕ) → p < s .width * s .height → leads (s .paints) (s .bound) ids ls work p ≡ (ltb (labelOf (pic s ls) p) (s .paints) && eqb (getD (firsts (pic s ls)) p 0) p)
+  leads-same p h = go (decLt (labelOf (pic s ls) p) (s .paints))
+    where
+      own : labelOf (pic s ls) p ≡ seen (s .bound) (getD ls p 0)
+      own = labelOf-is (s .width) (s .height) (s .bound) ls (M .count) p h
+
+      go : Dec (labelOf (pic s ls) p < s .paints) → leads (s .paints) (s .bound) ids ls work p ≡ (ltb (labelOf (pic s ls) p) (s .paints) && eqb (getD (firsts (pic s ls)) p 0) p)
+      go (yes i) = rw own (ap (λ v. ltb (seen (s .bound) (getD ls p 0)) (s .paints) && eqb v p) (numbers p h (λ e. omega arith)))
+      go (no i) = rw (own, le-ltb (seen (s .bound) (getD ls p 0)) (s .paints) (omega (arith, own)))
+
+  pub island-leaders : keep (leads (s .paints) (s .bound) ids ls work) (upto (length ls) 0) ≡ islands (pic s ls) (s .paints)
+  unfolding islands pixels picture
+  island-leaders =
+      ap (λ n. keep (leads (s .paints) (s .bound) ids ls work) (upto n 0)) (M .count)
+      ∙ keep-same (leads (s .paints) (s .bound) ids ls work) (λ p. ltb (labelOf (pic s ls) p) (s .paints) && eqb (getD (firsts (pic s ls)) p 0) p) (upto (s .width * s .height) 0)
+      (λ p i. leads-same p (let u = upto-in (s .width * s .height) 0 p i in omega arith))

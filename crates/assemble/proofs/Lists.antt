@@ -1,22 +1,13 @@
 -- Members kept by their numbers, and lengths of lists of lists.
 use Prim.Native.Nat.{ℕ, zero, suc, _≤_}
-use mathlib.Core.Path.{_≡_, refl, sym, ap, ap₂, subst, _∙_}
+use mathlib.Core.Path.{_≡_, refl, sym, ap, _∙_}
 use mathlib.Core.Bool.{Bool, true, false}
 use mathlib.Core.List.{List, [], _∷_, map, List·Memᴰ as In, List·Memᴰ·head as here, List·Memᴰ·tail as there, List·Memᴰ·not-nil as not-nil}
 use native.Mathlib.Omega.{arith}
 use lib.ListN.{length, getD, length-append}
-use Rattle.rules.specs.Lists.{keep, flat, upto, Distinct}
-use Rattle.rules.proofs.Ground.Lists.{distinct-left, distinct-right}
+use Rattle.rules.specs.Lists.{keep, flat, upto}
 use Rattle.rules.proofs.Ground.Pigeonhole.{Rearranged}
 use Rattle.rules.proofs.Ground.Sums.{sum, sum-same}
-
-module _ {A : Type 0} where
-  -- two tests that agree on the members
-  pub keep-same : (f g : A → Bool) (l : List A) → ((a : A) → In a l → f a ≡ g a) → keep f l ≡ keep g l
-  unfolding keep
-  keep-same f g [] h = refl
-  keep-same f g (a ∷ l) h =
-      ap₂ (λ (b : Bool) (m : List A). elim b as (λ x. List A) [ true ↦ a ∷ m | false ↦ m ]) (h a (here refl)) (keep-same f g l (λ b i. h b (there i)))
 
 -- the members that pass a test, by their numbers
 module _ {A : Type 0} (t : A → Bool) (d : A) where
@@ -41,7 +32,8 @@ module _ {A : Type 0} (t : A → Bool) (d : A) where
           (map (λ k. getD (a ∷ l) k d) (elim b [ true ↦ 0 ∷ keep (λ k. t (getD (a ∷ l) k d)) (upto (length l) 1) | false ↦ keep (λ k. t (getD (a ∷ l) k d)) (upto (length l) 1) ]))
       go true r = ap (λ (m : List A). a ∷ m) r
       go false r = r
-      -- LENGTHS
+
+-- LENGTHS
 
 module _ {A : Type 0} where
   length-flat : (ls : List (List A)) → length (flat ls) ≡ sum length ls
@@ -52,13 +44,6 @@ module _ {A : Type 0} where
   -- the same lists in another order
   pub length-rearranged : (ls ms : List (List A)) → Rearranged ls ms → length (flat ls) ≡ length (flat ms)
   length-rearranged ls ms r = length-flat ls ∙ sum-same length r ∙ sym (length-flat ms)
-
-  -- one of the lists
-  pub flat-each : (ls : List (List A)) → Distinct (flat ls) → (l : List A) → In l ls → Distinct l
-  unfolding flat
-  flat-each [] d l i = absurd (not-nil i)
-  flat-each (m ∷ ls) d l (here e) = subst Distinct (sym e) (distinct-left m (flat ls) d)
-  flat-each (m ∷ ls) d l (there i) = flat-each ls (distinct-right m (flat ls) d) l i
 
   pub flat-long : (ls : List (List A)) (l : List A) → In l ls → length l ≤ length (flat ls)
   unfolding flat

@@ -134,7 +134,7 @@ fn first_step(segments: &[u32], points: &[u32], r: u32) -> Walker
 }
 
 // The pixel on the left of a step.
-fn left_pixel(s: Size, w: Walker) -> usize
+pub fn left_pixel(s: Size, w: Walker) -> usize
     requires { ⌜ Flanked s w ⌝ }
     ensures { λ p. ⌜ (p ≡ pixelIn s w) × (p ≤ 536870912) ⌝ }
 {
@@ -331,7 +331,7 @@ fn list_island(
 }
 
 // The first pixels of all painted islands, row by row; how many there are.
-fn list_islands(
+pub fn list_islands(
     labels: &[u32],
     work: &mut [u32],
     paints: u32,

@@ -105,7 +105,7 @@ module _ (s : Size) (ls work : List ℕ) where
   abbrev m : Map
   m = mapOf s ls
 
-  work-left : (work₁ work₂ : List ℕ) → first m work ≡ 0 → Kept 0 (8 * plane (s .width) (s .height)) work work₁
+  pub work-left : (work₁ work₂ : List ℕ) → first m work ≡ 0 → Kept 0 (8 * plane (s .width) (s .height)) work work₁
       → work₂ ≡ sets work₁ 0 (replicate (8 * plane (s .width) (s .height)) 0) → work₂ ≡ replicate (workWords m) 0 ++ drop (workWords m) work
   work-left work₁ work₂ z k f =
       work-cleared (8 * plane (s .width) (s .height)) work work₁ work₂ (planes-passed s ls work (first m work) refl z) k f

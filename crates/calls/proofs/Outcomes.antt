@@ -82,7 +82,7 @@ module _ (m : Map) (work : List ℕ) where
     number = firstHit (mapChecks m work ++ ds)
 
     module _ (n : first ≡ 0 → ⊥) where
-      number-early : number ≡ first
+      pub number-early : number ≡ first
       number-early = hit-early (mapChecks m work) ds (map-positive m work) n
 
       pub refused-answer : (l : CutList) → answer number l ≡ refused first

@@ -48,7 +48,7 @@ fn refuse(number: u32) -> Answer
 // CHECKS, each with the number of the first that hits, or 0.
 
 // Of the map and the work store: 1 to 3.
-fn check_map(s: Size, labels: &[u32], work: &[u32]) -> u32
+pub fn check_map(s: Size, labels: &[u32], work: &[u32]) -> u32
     ensures { λ r. ⌜ r ≡ firstHit (mapChecks (mapOf s (now (labels .entry))) (now (work .entry))) ⌝ }
 {
     if 16384 < s.width {
@@ -153,7 +153,7 @@ fn most(s: Size) -> Answer
 // STEPS
 
 // The work store's first eight planes to 0.
-fn clear(s: Size, work: &mut [u32])
+pub fn clear(s: Size, work: &mut [u32])
     requires { ⌜ (s .width ≤ 16384) × (s .height ≤ 16384) × (8 * plane (s .width) (s .height) ≤ length (now work)) ⌝ }
     ensures { λ _. ⌜ now (work .exit) ≡ sets (now (work .entry)) 0 (replicate (8 * plane (s .width) (s .height)) 0) ⌝ }
 {
