@@ -75,6 +75,13 @@ extern "C" {
 #define MOSAIC_NONE UINT32_C(4294967295)    /* no node, no reference */
 #define MOSAIC_LONGEST_SIDE UINT32_C(16384)
 
+/* The length of a store: 64 bits on every machine, also where a pointer has 32. */
+#if SIZE_MAX == UINT64_MAX
+typedef size_t mosaic_length;
+#else
+typedef uint64_t mosaic_length;
+#endif
+
 enum mosaic_mode { MOSAIC_PLAIN = 0, MOSAIC_NO_WASTE = 1 };
 
 enum mosaic_number {
@@ -149,29 +156,29 @@ uint32_t mosaic_version(void);
 
 /* Counts the cut list. Changes the work store and the answer. */
 void mosaic_size(uint32_t mode, uint32_t width, uint32_t height, uint32_t paints,
-                 const uint32_t *labels, size_t labels_len,
-                 uint32_t *work, size_t work_len,
+                 const uint32_t *labels, mosaic_length labels_len,
+                 uint32_t *work, mosaic_length work_len,
                  mosaic_answer *answer);
 
 /* Writes nodes, segments and points. */
 void mosaic_graph(uint32_t mode, uint32_t width, uint32_t height, uint32_t paints,
-                  const uint32_t *labels, size_t labels_len,
-                  uint32_t *work, size_t work_len,
-                  uint32_t *nodes, size_t nodes_len,
-                  uint32_t *segments, size_t segments_len,
-                  uint32_t *points, size_t points_len,
+                  const uint32_t *labels, mosaic_length labels_len,
+                  uint32_t *work, mosaic_length work_len,
+                  uint32_t *nodes, mosaic_length nodes_len,
+                  uint32_t *segments, mosaic_length segments_len,
+                  uint32_t *points, mosaic_length points_len,
                   mosaic_answer *answer);
 
 /* Writes the whole cut list. */
 void mosaic_whole(uint32_t mode, uint32_t width, uint32_t height, uint32_t paints,
-                  const uint32_t *labels, size_t labels_len,
-                  uint32_t *work, size_t work_len,
-                  uint32_t *nodes, size_t nodes_len,
-                  uint32_t *segments, size_t segments_len,
-                  uint32_t *points, size_t points_len,
-                  uint32_t *references, size_t references_len,
-                  uint32_t *contours, size_t contours_len,
-                  uint32_t *faces, size_t faces_len,
+                  const uint32_t *labels, mosaic_length labels_len,
+                  uint32_t *work, mosaic_length work_len,
+                  uint32_t *nodes, mosaic_length nodes_len,
+                  uint32_t *segments, mosaic_length segments_len,
+                  uint32_t *points, mosaic_length points_len,
+                  uint32_t *references, mosaic_length references_len,
+                  uint32_t *contours, mosaic_length contours_len,
+                  uint32_t *faces, mosaic_length faces_len,
                   mosaic_answer *answer);
 
 #ifdef __cplusplus
