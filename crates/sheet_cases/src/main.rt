@@ -49,19 +49,24 @@ fn moves(start: Mover, calls: u32, segments: &[u32], points: &[u32]) {
     }
 }
 
+// The same over the stores of a cut list.
+fn moves_of(start: Mover, calls: u32, segments: &[u32; 64], points: &[u32; 64]) {
+    moves(start, calls, segments, points);
+}
+
 fn number(n: u32) {
     io::write_all(STDOUT_FILENO, b" ");
     io::print_decimal(STDOUT_FILENO, n as u64);
 }
 
-// The answer on a map with so many words lent for its faces, and the moves where it is 0.
+// The answer on a map with this store lent for its faces, and the moves where it is 0.
 fn cut(
     name: &[u8],
     sheet: Sheet,
     width: u32,
     height: u32,
     labels: &[u32],
-    faces: usize,
+    faces: &mut [u32],
     reversed: bool,
 ) {
     let mut work = [0u32; 128];
@@ -70,14 +75,12 @@ fn cut(
     let mut points = [0u32; 64];
     let mut references = [0u32; 16];
     let mut contours = [0u32; 16];
-    let mut store = [0u32; 16];
     let s = Size {
         width,
         height,
         paints: 2,
         bound: lattice::OUTSIDE,
     };
-    let lent = if faces < 16 { faces } else { 16 };
     let a = sheet::whole_on_sheet(
         sheet,
         s,
@@ -88,7 +91,7 @@ fn cut(
         &mut points,
         &mut references,
         &mut contours,
-        &mut store[..lent],
+        faces,
     );
     io::write_all(STDOUT_FILENO, name);
     number(a.number);
@@ -106,68 +109,81 @@ fn cut(
         } else {
             0
         };
-        moves(start, calls, &segments, &points);
+        moves_of(start, calls, &segments, &points);
     }
 }
 
 // ALLOWED SHEETS
 
 fn allowed() {
+    let mut faces = [0u32; 16];
     // no binary fraction: each coordinate is rounded
     let tenth = Sheet {
         width: 0.1,
         height: 1000.1,
     };
+    let pair = [0, 0, 1];
     cut(
         b"3 by 1 on 0.1 by 1000.1:",
         tenth,
         3,
         1,
-        &[0, 0, 1],
-        16,
+        &pair,
+        &mut faces,
         false,
     );
-    cut(b"the same, reversed:", tenth, 3, 1, &[0, 0, 1], 16, true);
-    // computed as the others are, the far end would be 3000
+    cut(b"the same, reversed:", tenth, 3, 1, &pair, &mut faces, true);
+    // computed as the others are, the far end would be off the sheet
     let far = Sheet {
         width: 2999.9999999999973,
         height: 3000.0,
     };
+    let last = [4294967295, 4294967295, 0];
     cut(
-        b"3 by 1 on 3000 less six steps by 3000:",
+        b"3 by 1 on 2999.9999999999973 by 3000:",
         far,
         3,
         1,
-        &[0, 4294967295, 4294967295],
-        16,
+        &last,
+        &mut faces,
         false,
     );
-    cut(b"0 by 0:", far, 0, 0, &[], 0, false);
+    cut(b"0 by 0:", far, 0, 0, &[], &mut faces, false);
 }
 
 // NUMBERS
 
-fn asked(name: &[u8], width: f64, height: f64, faces: usize) {
+fn asked(name: &[u8], width: f64, height: f64) {
+    let mut faces = [0u32; 16];
     let sheet = Sheet { width, height };
-    cut(name, sheet, 1, 1, &[0], faces, false);
+    cut(name, sheet, 1, 1, &[0], &mut faces, false);
 }
 
 fn refusals() {
     let zero = 0.0;
-    asked(b"a side of 0:", zero, 1.0, 16);
-    asked(b"a side of -0:", 1.0, -zero, 16);
-    asked(b"a side below 0:", -1.0, 1.0, 16);
-    asked(b"a side just above 3000:", 1.0, 3000.0000000000005, 16);
-    asked(b"no end:", 1.0 / zero, 1.0, 16);
-    asked(b"no number:", zero / zero, 1.0, 16);
-    asked(b"no number below:", 1.0, zero / zero, 16);
-    asked(b"the smallest side:", 5e-324, 3000.0, 16);
-    asked(b"9 is asked before 16:", zero, zero, 0);
+    asked(b"a side of 0:", zero, 1.0);
+    asked(b"a side of -0:", 1.0, -zero);
+    asked(b"a side below 0:", -1.0, 1.0);
+    asked(b"a side just above 3000:", 1.0, 3000.0000000000005);
+    asked(b"no end:", 1.0 / zero, 1.0);
+    asked(b"no number:", zero / zero, 1.0);
+    asked(b"no number below:", 1.0, zero / zero);
+    asked(b"the smallest side:", 5e-324, 3000.0);
     let none = Sheet {
         width: zero,
         height: zero,
     };
-    cut(b"2 is asked before 16:", none, 1, 1, &[], 0, false);
+    let mut empty = [0u32; 0];
+    cut(
+        b"9 is asked before 16:",
+        none,
+        1,
+        1,
+        &[0],
+        &mut empty,
+        false,
+    );
+    cut(b"2 is asked before 16:", none, 1, 1, &[], &mut empty, false);
 }
 
 // ODD STORES
