@@ -101,10 +101,9 @@ static void a_map(void) {
                        s[5], len[5], s[6], len[6], &sheet.answer);
     mosaic_whole(mode, w, h, paints, labels, count, p[0], len[0], p[1], len[1], p[2], len[2], p[3], len[3], p[4], len[4], p[5], len[5], p[6],
                  len[6], &whole.answer);
-    if (FAULT == 2 && sheet.answer.number == 16) {
-        sheet.answer.number = 0;
-    }
-    show_answer(sheet.answer);
+    mosaic_answer said = sheet.answer;
+    said.number = FAULT == 2 && said.number == 16 ? 0 : said.number;
+    show_answer(said);
     show_answer(whole.answer);
     printf("stores");
     for (int i = 0; i < STORES; i++) {
@@ -158,6 +157,7 @@ int main(void) {
             any_words();
         }
         printf("done\n");
+        fflush(stdout);
     }
     return 0;
 }

@@ -7,4 +7,5 @@ pub mod OnSheet
 pub mod Table
 pub mod Floats
 pub mod Within
+pub mod Strict
 pub mod Stays
