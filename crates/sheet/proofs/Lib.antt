@@ -9,3 +9,4 @@ pub mod Floats
 pub mod Within
 pub mod Strict
 pub mod Stays
+pub mod Lengths

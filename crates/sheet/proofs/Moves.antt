@@ -2,7 +2,7 @@
 -- each step; a segment read backwards gives the same points; no corner of a map is divided by a side of 0.
 use Prim.Native.Nat.{ℕ, zero, suc, _+_, _*_, _≤_, _<_}
 use mathlib.Core.Bool.{Bool, true, false}
-use mathlib.Core.Path.{_≡_, refl, sym, ap, ap₂, _∙_}
+use mathlib.Core.Path.{_≡_, refl, sym, ap, ap₂, subst, _∙_}
 use mathlib.Core.List.{List, [], _∷_, _++_, map, map-append, append-nil, reverse, reverse-cons, List·Memᴰ as In, List·Memᴰ·head as here, List·Memᴰ·tail as there, List·Memᴰ·not-nil as not-nil}
 use native.Mathlib.Nat.{zero-add, add-zero}
 use native.Mathlib.Omega.{arith}
@@ -18,7 +18,8 @@ use Rattle.rules.specs.Describes.{Segment, Describes}
 use Rattle.rules.specs.Calls.{Map, pictureOf, cuts, cutList, counted, storeAfter}
 use Rattle.rules.proofs.Ground.Lists.{in-at, in-flat}
 use Rattle.rules.proofs.Lattice.Frame.{Framed, picture-framed}
-use Rattle.rules.proofs.Lattice.Darts.{crack-x, crack-y, crack-to-x, crack-to-y}
+use Rattle.rules.proofs.Lattice.Darts.{turned-crack, crack-x, crack-y, crack-to-x, crack-to-y}
+use Rattle.rules.proofs.References.Backwards.{backwards-in}
 use Rattle.rules.proofs.Tracing.Partition.{describes}
 use Rattle.rules.proofs.CutList.Lengths.{length-segments}
 use Rattle.reader.specs.Reading.{Said as Read, sayAt as readAt, reads}
@@ -97,6 +98,11 @@ back-is F (a ∷ l) g c = corners-back F a l (g .0) c
 abbrev pub way : Bool → List Dart → List Dart
 way true s = backwards s
 way false s = s
+
+-- its steps are cracks, either way
+pub way-cracked : {P : Picture} (F : Framed P) (b : Bool) (s : List Dart) → ((a : Dart) → In a s → crack P a ≡ true) → (a : Dart) → In a (way b s) → crack P a ≡ true
+way-cracked F false s k a i = k a i
+way-cracked {P} F true s k a i = let r = backwards-in s a i in subst (λ (c : Dart). crack P c ≡ true) (sym (r .2)) (turned-crack F (r .0) (k (r .0) (r .1)))
 
 length-backwards : (s : List Dart) → length (backwards s) ≡ length s
 unfolding backwards

@@ -16,8 +16,6 @@ use Rattle.rules.specs.Graph.{segments}
 use Rattle.rules.specs.Calls.{Map, CutList, pictureOf, cutList, Check, firstHit, counted, mapChecks, graphChecks, faceChecks, early, answer, storeAfter, call, Outcome}
 use Rattle.rules.proofs.Ground.Lists.{in-flat, flat-map-in}
 use Rattle.rules.proofs.Lattice.Frame.{Framed, picture-framed}
-use Rattle.rules.proofs.Lattice.Darts.{turned-crack}
-use Rattle.rules.proofs.References.Backwards.{backwards-in}
 use Rattle.rules.proofs.Tracing.Partition.{describes}
 use Rattle.calls.specs.declared.Answer.{Answer}
 use Rattle.calls.specs.Outcome.{outcome}
@@ -31,7 +29,7 @@ use Rattle.sheet.specs.Call.{sheetChecks, wholeOnSheet}
 use Rattle.sheet.specs.declared.Sheet.{Sheet}
 use Rattle.sheet.specs.declared.Mover.{Mover}
 use Rattle.sheet.specs.declared.Move.the-variants.{End}
-use Rattle.sheet.proofs.Moves.{way, corner-on-map, whole-moves}
+use Rattle.sheet.proofs.Moves.{way, way-cracked, corner-on-map, whole-moves}
 use Rattle.sheet.proofs.Within.{along-within, along-mono}
 
 -- a sheet made of any two words of 64 bits
@@ -174,17 +172,13 @@ module _ (t : Sheet) (d : T (doubles t)) (m : Map) (work ns ss ps rs cs fs : Lis
     abbrev framed : Framed (pictureOf m)
     framed = picture-framed (m .width) (m .height) (m .bound) (m .labels)
 
-    way-cracked : (b : Bool) (s : List Dart) → ((a : Dart) → In a s → crack (pictureOf m) a ≡ true) → (a : Dart) → In a (way b s) → crack (pictureOf m) a ≡ true
-    way-cracked false s k a i = k a i
-    way-cracked true s k a i = let r = backwards-in s a i in subst (λ (c : Dart). crack (pictureOf m) c ≡ true) (sym (r .2)) (turned-crack framed (r .0) (k (r .0) (r .1)))
-
     ways-on-map : (b : Bool) (s : List Dart) → In s (map (way b) drawn) → (c : ℕ × ℕ) → In c (cornersOf s) → (c .0 ≤ m .width) × (c .1 ≤ m .height)
     unfolding picture
     ways-on-map b s i =
         let r = of-map (way b) drawn i in
         corner-on-map framed s
         (subst (λ (s : List Dart). (a : Dart) → In a s → crack (pictureOf m) a ≡ true) (r .2)
-        (way-cracked b (r .0) (λ a j. describes framed .cracked a (in-flat drawn (r .0) a (r .1) j))))
+        (way-cracked framed b (r .0) (λ a j. describes framed .cracked a (in-flat drawn (r .0) a (r .1) j))))
 
     -- EVERY MOVE of the list, its segments read forward or backwards
     pub list-on-sheet : (b : Bool) (a : Action) → In a (moves t (m .width) (m .height) (map (way b) drawn)) → T (onSheet t a)
