@@ -33,8 +33,9 @@
  *   3      the work store is shorter than 8 x (width+1) x (height+1) words
  *   4 5 6  the node, segment, point store holds fewer records than the map needs     (graph and whole)
  *   7 8 9  the reference, contour, face store likewise                               (whole)
+ *   16     a side of the sheet is not above 0 (or is no number), or is above 3000     (sheet_whole)
  *
- *                        after 1, 2, 3     after 4 to 9              after 0
+ *                        after 1, 2, 3     after 4 to 9, and 16      after 0
  *   counts               all 0             the map's true counts     the map's true counts
  *   work store           untouched         its first 8 x (width+1) x (height+1) words are 0, the others untouched
  *   every other store    untouched         untouched                 the records from its first word on, the others untouched
@@ -94,7 +95,8 @@ enum mosaic_number {
     MOSAIC_SHORT_POINTS = 6,
     MOSAIC_SHORT_REFERENCES = 7,
     MOSAIC_SHORT_CONTOURS = 8,
-    MOSAIC_SHORT_FACES = 9
+    MOSAIC_SHORT_FACES = 9,
+    MOSAIC_BAD_SHEET = 16
 };
 
 enum mosaic_direction { MOSAIC_NORTH = 0, MOSAIC_EAST = 1, MOSAIC_SOUTH = 2, MOSAIC_WEST = 3 };
@@ -180,6 +182,43 @@ void mosaic_whole(uint32_t mode, uint32_t width, uint32_t height, uint32_t paint
                   uint32_t *contours, mosaic_length contours_len,
                   uint32_t *faces, mosaic_length faces_len,
                   mosaic_answer *answer);
+
+/*
+ * MILLIMETRES ON A SHEET. mosaic_sheet_whole is mosaic_whole for a map that is to be cut from a sheet of sheet_width x sheet_height
+ * millimetres: the same stores and the same numbers, and after 9 the number 16.
+ *
+ * mosaic_move gives the moves of a cut list one at a time: for each segment in order a travel to its first corner, then a cut for each
+ * step; then the end, at every later call. A map's steps are the cuts. The corner (x, y) lies at x x sheet_width / width, multiplied
+ * and then divided in doubles, and for x = width at sheet_width itself; y likewise. No move of a list that mosaic_sheet_whole
+ * answered 0 for leaves the sheet.
+ *
+ * `segments` and `points` are the stores of the call, `count` its answer's segments. `at` has two words, {0, 0} for the first move;
+ * each call leaves the place of the next move there. `reversed` is 0 to read each segment from its first point to its last, any other
+ * value to read it backwards: the same points, bit for bit, in reverse order. `point` takes the two coordinates of a travel or a cut
+ * and is otherwise left as it was; it is aligned for double. What a caller owes of stores is owed of these four too.
+ *
+ * Any words are answered: 10 (MOSAIC_MOVE_OUTSIDE) where a segment's record does not lie in `segments`, or its points do not lie in
+ * `points`, and then at every later call. Nothing asks here whether the sheet is allowed.
+ */
+enum mosaic_move_number { MOSAIC_TRAVEL = 0, MOSAIC_CUT = 1, MOSAIC_END = 2, MOSAIC_MOVE_OUTSIDE = 10 };
+
+void mosaic_sheet_whole(uint32_t mode, uint32_t width, uint32_t height, uint32_t paints,
+                        double sheet_width, double sheet_height,
+                        const uint32_t *labels, size_t labels_len,
+                        uint32_t *work, size_t work_len,
+                        uint32_t *nodes, size_t nodes_len,
+                        uint32_t *segments, size_t segments_len,
+                        uint32_t *points, size_t points_len,
+                        uint32_t *references, size_t references_len,
+                        uint32_t *contours, size_t contours_len,
+                        uint32_t *faces, size_t faces_len,
+                        mosaic_answer *answer);
+
+uint32_t mosaic_move(uint32_t width, uint32_t height, double sheet_width, double sheet_height,
+                     uint32_t count, uint32_t reversed,
+                     const uint32_t *segments, size_t segments_len,
+                     const uint32_t *points, size_t points_len,
+                     uint32_t at[2], double point[2]);
 
 #ifdef __cplusplus
 }

@@ -23,8 +23,10 @@
 mod cutter;
 pub mod ffi;
 mod list;
+pub mod sheet;
 
 pub use cutter::{cut, cut_in, Cutter, Map, Mode, Refusal};
 pub use list::{
     Contour, CutList, Direction, Face, Node, NodeId, Point, RegionId, SegRef, Segment, SegmentId,
 };
+pub use sheet::{cut_on_sheet, Move, Moves, OnSheet, Sheet};

@@ -132,6 +132,11 @@ impl CutList {
         CutList { stores, answer }
     }
 
+    /// The records themselves.
+    pub(crate) fn stores(&self) -> &Stores {
+        &self.stores
+    }
+
     /// The seven counts of the map, as the library gave them.
     pub fn counts(&self) -> [u32; 7] {
         let a = &self.answer;

@@ -87,7 +87,7 @@ module _ (s : Size) (ls : List ℕ) where
     all-roomy = (graph-roomy ns ss ps n (λ z. rw (same-checks ns ss ps) at (miss z .0)), faces-roomy rs cs fs n (λ z. miss z .1))
 
 -- the counts with another number
-renumbered : (n : ℕ) (a : Answer) (l : CutList) → answerOf a ≡ counted 0 l → answerOf (withNumber n a) ≡ counted n l
+pub renumbered : (n : ℕ) (a : Answer) (l : CutList) → answerOf a ≡ counted 0 l → answerOf (withNumber n a) ≡ counted n l
 unfolding counted
 renumbered n a l k = λ i. record {
   number = n;

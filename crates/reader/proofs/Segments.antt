@@ -68,15 +68,15 @@ module _ {P : Picture} (F : Framed P) {ss : List (List Dart)} (D : Describes P s
       List·getD-append (segmentWords P 0 ss) after-segments 0 (8 * i + k) (omega (arith, length-segments P 0 ss))
       ∙ segment-word P ss 0 i k (firstPoint ss i) (omega arith) h b
 
-  first : getD segs (8 * i) 0 ≡ firstPoint ss i
+  pub first : getD segs (8 * i) 0 ≡ firstPoint ss i
   unfolding record-of
   first = let z : 8 * i + 0 ≡ 8 * i = omega arith in rw z at (word 0 (omega arith))
 
-  count : getD segs (8 * i + 1) 0 ≡ suc (length s)
+  pub count : getD segs (8 * i + 1) 0 ≡ suc (length s)
   unfolding record-of
   count = word 1 (omega arith)
 
-  inside : firstPoint ss i + suc (length s) ≤ length points / 2
+  pub inside : firstPoint ss i + suc (length s) ≤ length points / 2
   inside =
       let last = point-word (suc (2 * length s)) ss (has-step F D) i h (omega arith) .0 in
       omega (arith, last, length-append (pointWords ss) after-points)

@@ -22,7 +22,7 @@ pub record Answered (rows : List {1} Row) (m : Map) (l : CutList) (work : List �
   -- it settles every count and every store
   pub settled : Settled m l work parts o
 
-answered : (rows : List {1} Row) (m : Map) (l : CutList) (work : List ℕ) (more : List Check) (parts : List (List ℕ × List ℕ)) → Rising 0 rows → checks rows ≡ mapChecks m work ++ more
+pub answered : (rows : List {1} Row) (m : Map) (l : CutList) (work : List ℕ) (more : List Check) (parts : List (List ℕ × List ℕ)) → Rising 0 rows → checks rows ≡ mapChecks m work ++ more
     → Answered rows m l work parts (call m l work more parts)
 answered rows m l work more parts rising e =
     let n : call m l work more parts .answer .number ≡ firstHit (checks rows) = number-is m l work more parts ∙ ap firstHit (sym e) in
