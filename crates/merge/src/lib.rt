@@ -7,7 +7,7 @@ ghost use mathlib.Core.Path.{_≡_};
 ghost use Prim.Native.Nat.{_+_, _*_, _/_, _%_, _<_, _≤_};
 ghost use lib.ListN.{length, set};
 ghost use lib.Dec.{eqb, leb, ltb};
-ghost use Rattle.merge.specs.Merge.{gap, count, touch, limitOf, merges, stray, merge};
+ghost use Rattle.merge.specs.Merge.{count, touch, limitOf, merges, stray, merge};
 ghost use Rattle.merge.specs.Stored.{word, wide, tinted, channel, taken, apartIn, Room, Fits, Takes, Leaf, Found, Due, Visited, pairsIn, Sweeps, Swept, Settles, Rooms, Begun, Tallies, Tallied, Countable, coloured, Coloured};
 ghost use Rattle.merge.specs.Noted.{single, Table, Stands, Noted, rightOf, belowOf, Beside, NextColumn, Scans, Scanned};
 ghost use Rattle.merge.specs.Leaves.{Named, Gives, Given, Relabels, Relabelled, Leaves, AllLeft};
@@ -84,21 +84,14 @@ fn absorb(regions: &mut [u32], a: usize, b: usize)
     add_channel(regions, a, b, 6, 10, area);
 }
 
-// The distance of two numbers.
-fn gap(x: u32, y: u32) -> u64
-    ensures { λ r. ⌜ (r ≡ gap x y) × (r ≤ 4294967295) ⌝ }
-{
-    if x < y { long(y - x) } else { long(x - y) }
-}
-
 // The distance of two regions' mean colours.
 fn apart(regions: &[u32], a: usize, b: usize) -> u64
     requires { ⌜ Room a b (now regions) ⌝ }
     ensures { λ r. ⌜ r ≡ apartIn (now (regions .entry)) a b ⌝ }
 {
-    let red = gap(get(regions, a, 8), get(regions, b, 8));
-    let green = gap(get(regions, a, 9), get(regions, b, 9));
-    let blue = gap(get(regions, a, 10), get(regions, b, 10));
+    let red = order::gap(get(regions, a, 8), get(regions, b, 8));
+    let green = order::gap(get(regions, a, 9), get(regions, b, 9));
+    let blue = order::gap(get(regions, a, 10), get(regions, b, 10));
     red + green + blue
 }
 
