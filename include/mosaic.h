@@ -33,6 +33,9 @@
  *   3      the work store is shorter than 8 x (width+1) x (height+1) words
  *   4 5 6  the node, segment, point store holds fewer records than the map needs     (graph and whole)
  *   7 8 9  the reference, contour, face store likewise                               (whole)
+ *   12     before a merge, a label is neither MOSAIC_OUTSIDE nor painted             (merge, after 2 and before 3)
+ *   17     before a merge, the colours have another length than 3 x paints bytes,
+ *          or the region store is shorter than 12 x paints words                     (merge, after 3)
  *
  *                        after 1, 2, 3     after 4 to 9              after 0
  *   counts               all 0             the map's true counts     the map's true counts
@@ -87,7 +90,9 @@ enum mosaic_number {
     MOSAIC_SHORT_POINTS = 6,
     MOSAIC_SHORT_REFERENCES = 7,
     MOSAIC_SHORT_CONTOURS = 8,
-    MOSAIC_SHORT_FACES = 9
+    MOSAIC_SHORT_FACES = 9,
+    MOSAIC_UNPAINTED_LABEL = 12,
+    MOSAIC_MERGE_STORES = 17
 };
 
 enum mosaic_direction { MOSAIC_NORTH = 0, MOSAIC_EAST = 1, MOSAIC_SOUTH = 2, MOSAIC_WEST = 3 };
@@ -173,6 +178,37 @@ void mosaic_whole(uint32_t mode, uint32_t width, uint32_t height, uint32_t paint
                   uint32_t *contours, size_t contours_len,
                   uint32_t *faces, size_t faces_len,
                   mosaic_answer *answer);
+
+/*
+ * MERGE. Near colours become one leaf: neighbouring regions whose mean colours are no further apart than `limit` (the sum of the
+ * three channels' differences, so 765 merges all that touches) become one, the nearest pairs first; mosaic_merge takes no mode.
+ *
+ * Colours are three bytes for each paint, red, green and blue; `colours_len` is in BYTES, and exactly 3 x paints. The region store
+ * takes 12 words for each paint; more may be lent. The work store is that of the other calls.
+ *
+ * There is a merge with a limit of 0 or more and two or more paints. Without one, 12 and 17 are not asked.
+ *
+ *                        after a refusal   after 0 without a merge    after a merge
+ *   answer               the number, 0     0, paints                  0, the new paint count
+ *   labels               untouched         untouched                  the new ones, numbered by first pixel; OUTSIDE stays
+ *   colours              untouched         untouched                  three bytes for each new paint, the others untouched
+ *   work store           untouched         its first 8 x (width+1) x (height+1) words are 0, the others untouched
+ *   region store         untouched         untouched                  its first 12 x paints words are 0, the others untouched
+ */
+typedef struct mosaic_merged {
+    uint32_t number;
+    uint32_t paints; /* the new paint count */
+} mosaic_merged;
+
+#define MOSAIC_REGION_WORDS 12 /* for each paint */
+
+void mosaic_merge(uint32_t width, uint32_t height, uint32_t paints,
+                  uint32_t *labels, size_t labels_len,
+                  uint8_t *colours, size_t colours_len,
+                  int32_t limit,
+                  uint32_t *work, size_t work_len,
+                  uint32_t *regions, size_t regions_len,
+                  mosaic_merged *answer);
 
 #ifdef __cplusplus
 }

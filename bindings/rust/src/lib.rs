@@ -23,8 +23,10 @@
 mod cutter;
 pub mod ffi;
 mod list;
+mod merge;
 
 pub use cutter::{cut, Cutter, Map, Refusal};
+pub use merge::{merge_similar, merge_words, Merged, Unmerged, REGION_WORDS};
 pub use list::{
     Contour, CutList, Direction, Face, Node, NodeId, Point, RegionId, SegRef, Segment, SegmentId,
 };
