@@ -44,9 +44,29 @@ pub fn merge_words(
     work: &mut [u32],
     regions: &mut [u32],
 ) -> Merged {
+    let work = (work.as_mut_ptr(), work.len());
+    let regions = (regions.as_mut_ptr(), regions.len());
+    // SAFETY: both stores are borrowed for change.
+    unsafe { call(width, height, paints, labels, colours, limit, work, regions) }
+}
+
+/// # Safety
+///
+/// `work` and `regions` are pointers and lengths of rooms of their own, which may hold anything.
+#[allow(clippy::too_many_arguments)]
+unsafe fn call(
+    width: u32,
+    height: u32,
+    paints: u32,
+    labels: &mut [u32],
+    colours: &mut [u8],
+    limit: i32,
+    work: (*mut u32, usize),
+    regions: (*mut u32, usize),
+) -> Merged {
     let mut answer = Merged::default();
-    // SAFETY: each pointer and length is a slice that is borrowed for change, so no two overlap, and the answer is a value of its own.
-    // The library's promise holds for stores of any length, whatever they hold.
+    // SAFETY: labels and colours are borrowed for change, the caller answers for the two others, and the answer is a value of its own, so
+    // no two overlap. The library's promise holds for stores of any length, whatever they hold.
     unsafe {
         mosaic_merge(
             width,
@@ -57,10 +77,10 @@ pub fn merge_words(
             colours.as_mut_ptr(),
             colours.len(),
             limit,
-            work.as_mut_ptr(),
-            work.len(),
-            regions.as_mut_ptr(),
-            regions.len(),
+            work.0,
+            work.1,
+            regions.0,
+            regions.1,
             &mut answer,
         );
     }
@@ -124,10 +144,12 @@ pub fn merge_similar(
         true => REGION_WORDS * colours.len(),
         false => 0,
     };
-    let mut work = zeros(words)?;
-    let mut regions = zeros(rooms)?;
+    let (mut work, mut regions) = (room(words)?, room(rooms)?);
+    let work = (work.as_mut_ptr(), words);
+    let regions = (regions.as_mut_ptr(), rooms);
     let colours = colours.as_flattened_mut();
-    let answer = merge_words(width, height, paints, labels, colours, limit, &mut work, &mut regions);
+    // SAFETY: each store is the room of a vector of its own.
+    let answer = unsafe { call(width, height, paints, labels, colours, limit, work, regions) };
     match answer.number {
         0 => Ok(answer.paints),
         1 => Err(Unmerged::SideTooLong),
@@ -137,11 +159,11 @@ pub fn merge_similar(
     }
 }
 
-fn zeros(words: usize) -> Result<Vec<u32>, Unmerged> {
+/// A store without a value: what it holds before a call is of no account.
+fn room(words: usize) -> Result<Vec<u32>, Unmerged> {
     let mut store = Vec::new();
     store
         .try_reserve_exact(words)
         .map_err(|_| Unmerged::NoMemory)?;
-    store.resize(words, 0);
     Ok(store)
 }
