@@ -10,7 +10,7 @@ ghost use lib.Dec.{eqb, leb, ltb};
 ghost use Rattle.merge.specs.Merge.{count, touch, limitOf, merges, stray, merge};
 ghost use Rattle.merge.specs.Stored.{word, wide, tinted, channel, taken, apartIn, Room, Fits, Takes, Leaf, Found, Due, Visited, pairsIn, Sweeps, Swept, Settles, Rooms, Begun, Tallies, Tallied, Countable, coloured, Coloured};
 ghost use Rattle.merge.specs.Noted.{single, Table, Stands, Noted, rightOf, belowOf, Beside, NextColumn, Scans, Scanned};
-ghost use Rattle.merge.specs.Leaves.{Named, Gives, Given, Relabels, Relabelled, Leaves, AllLeft};
+ghost use Rattle.merge.specs.Leaves.{Named, Gives, Given, Relabels, Relabelled, Spread, Leaves, AllLeft};
 ghost use Rattle.calls.specs.Outcome.{mapOf};
 ghost use Rattle.merge.specs.Called.{outcome, Checked, Starts, Started, Ranks, Ranked, Runs, Ran, Merged};
 ghost use mathlib.Core.Bool.{true, not, _&&_, _||_};
@@ -456,7 +456,23 @@ fn relabel_one(
     r
 }
 
-// The new labels of all pixels, and the colours of the new paints. How many there are.
+// The labels from a place on that are `old` become `new`. Where another label comes, or the end.
+fn spread(labels: &mut [u32], from: usize, old: u32, new: u32) -> usize
+    requires { ⌜ from ≤ length (now labels) ⌝ }
+    ensures { λ r. ⌜ Spread from old new (now (labels .entry)) r (now (labels .exit)) ⌝ }
+{
+    let mut q = from;
+    while q < labels.len() {
+        if store::at(labels, q) != old {
+            return q;
+        }
+        labels[q] = new;
+        q += 1;
+    }
+    q
+}
+
+// The new labels of all pixels, run by run, and the colours of the new paints. How many there are.
 fn relabel(
     labels: &mut [u32],
     colours: &mut [u8],
@@ -470,8 +486,10 @@ fn relabel(
     let mut k: usize = 0;
     let mut p: usize = 0;
     while p < labels.len() {
+        let old = store::at(labels, p);
         k = relabel_one(labels, colours, work, regions, n, k, p);
-        p += 1;
+        let new = store::at(labels, p);
+        p = spread(labels, p + 1, old, new);
     }
     k
 }
