@@ -26,7 +26,7 @@ mod list;
 mod merge;
 
 pub use cutter::{cut, Cutter, Map, Refusal};
-pub use merge::{merge_similar, merge_words, Merged, Unmerged, REGION_WORDS};
 pub use list::{
     Contour, CutList, Direction, Face, Node, NodeId, Point, RegionId, SegRef, Segment, SegmentId,
 };
+pub use merge::{merge_similar, merge_words, Merged, Unmerged, REGION_WORDS};

@@ -42,7 +42,10 @@ fn without_a_merge_all_stays() {
     let mut labels = [9, 1];
     let mut colours = [[1, 2, 3], [1, 2, 3]];
     assert_eq!(merge_similar(2, 1, &mut labels, &mut colours, -1), Ok(2));
-    assert_eq!(merge_similar(2, 1, &mut labels, &mut colours[..1], 5), Ok(1));
+    assert_eq!(
+        merge_similar(2, 1, &mut labels, &mut colours[..1], 5),
+        Ok(1)
+    );
     assert_eq!((labels, colours), ([9, 1], [[1, 2, 3], [1, 2, 3]]));
 }
 
@@ -63,8 +66,18 @@ fn stores_of_another_length() {
     let refused = |bytes: usize, rooms: usize, words: usize| {
         let (mut labels, mut colours) = ([0, 1], vec![6; bytes]);
         let (mut work, mut regions) = (vec![8; words], vec![9; rooms]);
-        let said = merge_words(2, 1, 2, &mut labels, &mut colours, 0, &mut work, &mut regions);
-        let stays = colours == vec![6; bytes] && work == vec![8; words] && regions == vec![9; rooms];
+        let said = merge_words(
+            2,
+            1,
+            2,
+            &mut labels,
+            &mut colours,
+            0,
+            &mut work,
+            &mut regions,
+        );
+        let stays =
+            colours == vec![6; bytes] && work == vec![8; words] && regions == vec![9; rooms];
         assert!(labels == [0, 1] && stays);
         said
     };
@@ -80,8 +93,23 @@ fn stores_of_another_length() {
 fn words_past_the_stores_stay() {
     let (mut labels, mut colours) = ([0, 1], [3; 6]);
     let (mut work, mut regions) = (vec![8; 50], vec![9; 26]);
-    let said = merge_words(2, 1, 2, &mut labels, &mut colours, 0, &mut work, &mut regions);
-    assert_eq!(said, Merged { number: 0, paints: 1 });
+    let said = merge_words(
+        2,
+        1,
+        2,
+        &mut labels,
+        &mut colours,
+        0,
+        &mut work,
+        &mut regions,
+    );
+    assert_eq!(
+        said,
+        Merged {
+            number: 0,
+            paints: 1
+        }
+    );
     assert_eq!(work, [vec![0; 48], vec![8; 2]].concat());
     assert_eq!(regions, [vec![0; 24], vec![9; 2]].concat());
 }

@@ -27,7 +27,12 @@ impl Tally {
         }
         self.calls += 1;
         *self.numbers.entry(have.answer.number).or_default() += 1;
-        let paints = |labels: &[u32]| labels.iter().collect::<std::collections::HashSet<_>>().len();
+        let paints = |labels: &[u32]| {
+            labels
+                .iter()
+                .collect::<std::collections::HashSet<_>>()
+                .len()
+        };
         self.merged += u32::from(paints(&have.labels) < paints(&call.job.labels));
     }
 

@@ -71,7 +71,13 @@ pub fn table() {
         let mut work = vec![0x5a5a_5a5a; work_words(&job)];
         let mut regions = vec![0x5a5a_5a5a; 12 * paints as usize];
         let mut least = [f64::MAX; 3];
-        let rounds = if side < 1024 { 15 } else if paints > 4000 { 2 } else { 7 };
+        let rounds = if side < 1024 {
+            15
+        } else if paints > 4000 {
+            2
+        } else {
+            7
+        };
         for _ in 0..rounds {
             let mut map = coloured_map(side, side, &job.labels, &job.colours);
             least[0] = least[0].min(timed(|| map.merge_similar(limit)));
@@ -81,7 +87,14 @@ pub fn table() {
             regions.fill(0x5a5a_5a5a);
             let call = || {
                 merge_words(
-                    side, side, paints, &mut labels, &mut colours, limit, &mut work, &mut regions,
+                    side,
+                    side,
+                    paints,
+                    &mut labels,
+                    &mut colours,
+                    limit,
+                    &mut work,
+                    &mut regions,
                 )
             };
             least[1] = least[1].min(timed(call));
