@@ -34,6 +34,9 @@
  *   4 5 6  the node, segment, point store holds fewer records than the map needs     (graph and whole)
  *   7 8 9  the reference, contour, face store likewise                               (whole)
  *   16     a side of the sheet is not above 0 (or is no number), or is above 3000     (sheet_whole)
+ *   12     before a merge, a label is neither MOSAIC_OUTSIDE nor painted             (merge, after 2 and before 3)
+ *   17     before a merge, the colours have another length than 3 x paints bytes,
+ *          or the region store is shorter than 12 x paints words                     (merge, after 3)
  *
  *                        after 1, 2, 3     after 4 to 9, and 16      after 0
  *   counts               all 0             the map's true counts     the map's true counts
@@ -96,7 +99,9 @@ enum mosaic_number {
     MOSAIC_SHORT_REFERENCES = 7,
     MOSAIC_SHORT_CONTOURS = 8,
     MOSAIC_SHORT_FACES = 9,
-    MOSAIC_BAD_SHEET = 16
+    MOSAIC_BAD_SHEET = 16,
+    MOSAIC_UNPAINTED_LABEL = 12,
+    MOSAIC_MERGE_STORES = 17
 };
 
 enum mosaic_direction { MOSAIC_NORTH = 0, MOSAIC_EAST = 1, MOSAIC_SOUTH = 2, MOSAIC_WEST = 3 };
@@ -204,21 +209,52 @@ enum mosaic_move_number { MOSAIC_TRAVEL = 0, MOSAIC_CUT = 1, MOSAIC_END = 2, MOS
 
 void mosaic_sheet_whole(uint32_t mode, uint32_t width, uint32_t height, uint32_t paints,
                         double sheet_width, double sheet_height,
-                        const uint32_t *labels, size_t labels_len,
-                        uint32_t *work, size_t work_len,
-                        uint32_t *nodes, size_t nodes_len,
-                        uint32_t *segments, size_t segments_len,
-                        uint32_t *points, size_t points_len,
-                        uint32_t *references, size_t references_len,
-                        uint32_t *contours, size_t contours_len,
-                        uint32_t *faces, size_t faces_len,
+                        const uint32_t *labels, mosaic_length labels_len,
+                        uint32_t *work, mosaic_length work_len,
+                        uint32_t *nodes, mosaic_length nodes_len,
+                        uint32_t *segments, mosaic_length segments_len,
+                        uint32_t *points, mosaic_length points_len,
+                        uint32_t *references, mosaic_length references_len,
+                        uint32_t *contours, mosaic_length contours_len,
+                        uint32_t *faces, mosaic_length faces_len,
                         mosaic_answer *answer);
 
 uint32_t mosaic_move(uint32_t width, uint32_t height, double sheet_width, double sheet_height,
                      uint32_t count, uint32_t reversed,
-                     const uint32_t *segments, size_t segments_len,
-                     const uint32_t *points, size_t points_len,
+                     const uint32_t *segments, mosaic_length segments_len,
+                     const uint32_t *points, mosaic_length points_len,
                      uint32_t at[2], double point[2]);
+
+/*
+ * MERGE. Near colours become one leaf: neighbouring regions whose mean colours are no further apart than `limit` (the sum of the
+ * three channels' differences, so 765 merges all that touches) become one, the nearest pairs first; mosaic_merge takes no mode.
+ *
+ * Colours are three bytes for each paint, red, green and blue; `colours_len` is in BYTES, and exactly 3 x paints. The region store
+ * takes 12 words for each paint; more may be lent. The work store is that of the other calls.
+ *
+ * There is a merge with a limit of 0 or more and two or more paints. Without one, 12 and 17 are not asked.
+ *
+ *                        after a refusal   after 0 without a merge    after a merge
+ *   answer               the number, 0     0, paints                  0, the new paint count
+ *   labels               untouched         untouched                  the new ones, numbered by first pixel; OUTSIDE stays
+ *   colours              untouched         untouched                  three bytes for each new paint, the others untouched
+ *   work store           untouched         its first 8 x (width+1) x (height+1) words are 0, the others untouched
+ *   region store         untouched         untouched                  its first 12 x paints words are 0, the others untouched
+ */
+typedef struct mosaic_merged {
+    uint32_t number;
+    uint32_t paints; /* the new paint count */
+} mosaic_merged;
+
+#define MOSAIC_REGION_WORDS 12 /* for each paint */
+
+void mosaic_merge(uint32_t width, uint32_t height, uint32_t paints,
+                  uint32_t *labels, mosaic_length labels_len,
+                  uint8_t *colours, mosaic_length colours_len,
+                  int32_t limit,
+                  uint32_t *work, mosaic_length work_len,
+                  uint32_t *regions, mosaic_length regions_len,
+                  mosaic_merged *answer);
 
 #ifdef __cplusplus
 }

@@ -24,9 +24,11 @@ mod cutter;
 pub mod ffi;
 mod list;
 pub mod sheet;
+mod merge;
 
 pub use cutter::{cut, cut_in, Cutter, Map, Mode, Refusal};
 pub use list::{
     Contour, CutList, Direction, Face, Node, NodeId, Point, RegionId, SegRef, Segment, SegmentId,
 };
 pub use sheet::{cut_on_sheet, Move, Moves, OnSheet, Sheet};
+pub use merge::{merge_similar, merge_words, Merged, Unmerged, REGION_WORDS};

@@ -1,6 +1,7 @@
 //! The unchanged Rust of vtracer's mosaic mode, stages 1 and 2, and its answers as the port's words.
 //!
 //! - [`cut_list`] goes from a map to the words of the six stores and the seven counts.
+//! - with the feature `colours`, [`coloured_map`] is a map for the Rust's `merge_similar` (`differential/merge`).
 //! - [`label_map`], [`extract`] and [`assemble`] are its three steps, for who wants to time them; [`cut_list_of`] is the last.
 //!
 //! The Rust asks for a map whose label count is width × height and checks nothing; so do these.
@@ -55,6 +56,25 @@ pub fn label_map(width: u32, height: u32, paints: u32, labels: &[u32]) -> LabelM
         labels: labels.to_vec(),
         paints: vec![Paint::Solid(Color::new(0, 0, 0)); paints as usize],
     }
+}
+
+/// The Rust's map with its colours, three bytes for each paint; `merge_similar` is a method of it.
+#[cfg(feature = "colours")]
+pub fn coloured_map(width: u32, height: u32, labels: &[u32], colours: &[u8]) -> LabelMap {
+    let solid = |c: &[u8]| Paint::Solid(Color::new(c[0], c[1], c[2]));
+    LabelMap {
+        width,
+        height,
+        labels: labels.to_vec(),
+        paints: colours.chunks_exact(3).map(solid).collect(),
+    }
+}
+
+/// The colours of a map's paints.
+#[cfg(feature = "colours")]
+pub fn colours_of(map: &LabelMap) -> Vec<u8> {
+    let bytes = |paint: &Paint| [paint.color().r, paint.color().g, paint.color().b];
+    map.paints.iter().flat_map(bytes).collect()
 }
 
 /// Stage 1, as graph.rs has it. Stage 2 is [`assemble`], as face.rs has it.

@@ -13,9 +13,24 @@ pub struct PointF64 {
 }
 
 /// One channel of a colour. It takes no room, so that 4294967295 paints take none either; stages 1 and 2 look at the paint count alone.
+#[cfg(not(feature = "colours"))]
 #[derive(Clone, Copy, Debug, PartialEq, Eq)]
 pub enum Channel {
     Zero,
+}
+
+#[cfg(not(feature = "colours"))]
+fn channel(_value: u8) -> Channel {
+    Channel::Zero
+}
+
+/// One channel of a colour: merging looks at it.
+#[cfg(feature = "colours")]
+pub type Channel = u8;
+
+#[cfg(feature = "colours")]
+fn channel(value: u8) -> Channel {
+    value
 }
 
 #[derive(Clone, Copy, Debug, PartialEq, Eq)]
@@ -26,11 +41,11 @@ pub struct Color {
 }
 
 impl Color {
-    pub fn new(_r: u8, _g: u8, _b: u8) -> Color {
+    pub fn new(r: u8, g: u8, b: u8) -> Color {
         Color {
-            r: Channel::Zero,
-            g: Channel::Zero,
-            b: Channel::Zero,
+            r: channel(r),
+            g: channel(g),
+            b: channel(b),
         }
     }
 }

@@ -1,0 +1,2 @@
+-- The merge for C programs: one outcome in words.
+pub mod Words
