@@ -33,6 +33,7 @@
  *   3      the work store is shorter than 8 x (width+1) x (height+1) words
  *   4 5 6  the node, segment, point store holds fewer records than the map needs     (graph and whole)
  *   7 8 9  the reference, contour, face store likewise                               (whole)
+ *   11     the layers, their masks or the labels are not whole; asked after 1        (mosaic_layers)
  *
  *                        after 1, 2, 3     after 4 to 9              after 0
  *   counts               all 0             the map's true counts     the map's true counts
@@ -87,7 +88,8 @@ enum mosaic_number {
     MOSAIC_SHORT_POINTS = 6,
     MOSAIC_SHORT_REFERENCES = 7,
     MOSAIC_SHORT_CONTOURS = 8,
-    MOSAIC_SHORT_FACES = 9
+    MOSAIC_SHORT_FACES = 9,
+    MOSAIC_LAYERS_NOT_WHOLE = 11
 };
 
 enum mosaic_direction { MOSAIC_NORTH = 0, MOSAIC_EAST = 1, MOSAIC_SOUTH = 2, MOSAIC_WEST = 3 };
@@ -173,6 +175,23 @@ void mosaic_whole(uint32_t mode, uint32_t width, uint32_t height, uint32_t paint
                   uint32_t *contours, size_t contours_len,
                   uint32_t *faces, size_t faces_len,
                   mosaic_answer *answer);
+
+/*
+ * LAYERS. Flattens layers into a map: the last layer with a 1 over a pixel gives its number as label, and where there is none the label
+ * is MOSAIC_OUTSIDE. The paint count of that map is the number of layers, layers_len / 4.
+ *
+ * A layer is four words: the x and y offset of its upper left pixel on the canvas, each the 32 bits of an int32_t, then its width and
+ * height. Its mask is the next width x height bytes of `masks`, row by row, 0 or 1. Offset plus column is an exact sum: a layer may lie
+ * off the canvas, wholly or in part, and may be larger than any canvas.
+ *
+ * Returns its number alone. 1 when width or height is above 16384; then 11 when there are more than 65535 layers, layers_len is no
+ * multiple of four, the masks are not exactly masks_len bytes, a byte is above 1, or labels_len is not width x height. After 1 and 11
+ * no label is written.
+ */
+uint32_t mosaic_layers(uint32_t width, uint32_t height,
+                       const uint32_t *layers, size_t layers_len,
+                       const uint8_t *masks, size_t masks_len,
+                       uint32_t *labels, size_t labels_len);
 
 #ifdef __cplusplus
 }

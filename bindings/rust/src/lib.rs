@@ -22,6 +22,7 @@
 
 mod cutter;
 pub mod ffi;
+pub mod layers;
 mod list;
 
 pub use cutter::{cut, Cutter, Map, Refusal};
