@@ -37,6 +37,7 @@
  *   12     before a merge, a label is neither MOSAIC_OUTSIDE nor painted             (merge, after 2 and before 3)
  *   17     before a merge, the colours have another length than 3 x paints bytes,
  *          or the region store is shorter than 12 x paints words                     (merge, after 3)
+ *   11     the layers, their masks or the labels are not whole; asked after 1        (mosaic_layers)
  *
  *                        after 1, 2, 3     after 4 to 9, and 16      after 0
  *   counts               all 0             the map's true counts     the map's true counts
@@ -101,7 +102,8 @@ enum mosaic_number {
     MOSAIC_SHORT_FACES = 9,
     MOSAIC_BAD_SHEET = 16,
     MOSAIC_UNPAINTED_LABEL = 12,
-    MOSAIC_MERGE_STORES = 17
+    MOSAIC_MERGE_STORES = 17,
+    MOSAIC_LAYERS_NOT_WHOLE = 11
 };
 
 enum mosaic_direction { MOSAIC_NORTH = 0, MOSAIC_EAST = 1, MOSAIC_SOUTH = 2, MOSAIC_WEST = 3 };
@@ -255,6 +257,23 @@ void mosaic_merge(uint32_t width, uint32_t height, uint32_t paints,
                   uint32_t *work, mosaic_length work_len,
                   uint32_t *regions, mosaic_length regions_len,
                   mosaic_merged *answer);
+
+/*
+ * LAYERS. Flattens layers into a map: the last layer with a 1 over a pixel gives its number as label, and where there is none the label
+ * is MOSAIC_OUTSIDE. The paint count of that map is the number of layers, layers_len / 4.
+ *
+ * A layer is four words: the x and y offset of its upper left pixel on the canvas, each the 32 bits of an int32_t, then its width and
+ * height. Its mask is the next width x height bytes of `masks`, row by row, 0 or 1. Offset plus column is an exact sum: a layer may lie
+ * off the canvas, wholly or in part, and may be larger than any canvas.
+ *
+ * Returns its number alone. 1 when width or height is above 16384; then 11 when there are more than 65535 layers, layers_len is no
+ * multiple of four, the masks are not exactly masks_len bytes, a byte is above 1, or labels_len is not width x height. After 1 and 11
+ * no label is written.
+ */
+uint32_t mosaic_layers(uint32_t width, uint32_t height,
+                       const uint32_t *layers, mosaic_length layers_len,
+                       const uint8_t *masks, mosaic_length masks_len,
+                       uint32_t *labels, mosaic_length labels_len);
 
 #ifdef __cplusplus
 }

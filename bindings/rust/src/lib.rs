@@ -22,6 +22,7 @@
 
 mod cutter;
 pub mod ffi;
+pub mod layers;
 mod list;
 pub mod sheet;
 mod merge;

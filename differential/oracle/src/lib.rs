@@ -3,6 +3,7 @@
 //! - [`cut_list`] goes from a map to the words of the six stores and the seven counts.
 //! - with the feature `colours`, [`coloured_map`] is a map for the Rust's `merge_similar` (`differential/merge`).
 //! - [`label_map`], [`extract`] and [`assemble`] are its three steps, for who wants to time them; [`cut_list_of`] is the last.
+//! - [`segmentation`] makes layers of the port's words, [`from_segmentation`] flattens them.
 //!
 //! The Rust asks for a map whose label count is width × height and checks nothing; so do these.
 
@@ -13,8 +14,10 @@ use vtracer::{ir, mosaic, simplify};
 pub use mosaic::PixelSegmentFitter::{assemble, Contour, Face};
 pub use mosaic::{BoundaryGraph, LabelMap, Node, SegRef, Segment, OUTSIDE};
 
-use ir::Paint;
-use visioncortex::Color;
+pub use ir::Segmentation;
+
+use ir::{Layer, Paint, RegionMask};
+use visioncortex::{BinaryImage, Color, PointI32};
 
 /// "None" in a record.
 pub const NONE: u32 = u32::MAX;
@@ -154,6 +157,38 @@ fn counts(out: &CutList) -> [u32; 7] {
     // A segment has one step fewer than points.
     counts[6] = counts[2] - counts[1];
     counts
+}
+
+/// The Rust's layers. Of every four words x and y are signed; the masks stand one after the other, a byte for a pixel.
+pub fn segmentation(width: u32, height: u32, layers: &[u32], mut masks: &[u8]) -> Segmentation {
+    let mut seg = Segmentation::new(width, height);
+    for layer in layers.chunks_exact(4) {
+        let (w, h) = (layer[2] as usize, layer[3] as usize);
+        let (mask, rest) = masks.split_at(w * h);
+        masks = rest;
+        let offset = PointI32 {
+            x: layer[0] as i32,
+            y: layer[1] as i32,
+        };
+        seg.layers.push(Layer {
+            paint: Paint::Solid(Color::new(0, 0, 0)),
+            mask: RegionMask::new(image(w, h, mask), offset),
+        });
+    }
+    seg
+}
+
+fn image(width: usize, height: usize, mask: &[u8]) -> BinaryImage {
+    let mut image = BinaryImage::new_w_h(width, height);
+    for (i, &byte) in mask.iter().enumerate() {
+        image.set_pixel(i % width, i / width, byte == 1);
+    }
+    image
+}
+
+/// The flat map of layers, as mosaic.rs has it.
+pub fn from_segmentation(seg: &Segmentation) -> LabelMap {
+    LabelMap::from_segmentation(seg)
 }
 
 #[cfg(test)]
