@@ -30,7 +30,7 @@ pub struct Answer {
 }
 
 // The answer to a map that was not looked at.
-fn refuse(number: u32) -> Answer
+pub fn refuse(number: u32) -> Answer
     ensures { λ r. ⌜ answerOf r ≡ refused number ⌝ }
 {
     Answer {
@@ -48,7 +48,7 @@ fn refuse(number: u32) -> Answer
 // CHECKS, each with the number of the first that hits, or 0.
 
 // Of the map and the work store: 1 to 3.
-fn check_map(s: Size, labels: &[u32], work: &[u32]) -> u32
+pub fn check_map(s: Size, labels: &[u32], work: &[u32]) -> u32
     ensures { λ r. ⌜ r ≡ firstHit (mapChecks (mapOf s (now (labels .entry))) (now (work .entry))) ⌝ }
 {
     if 16384 < s.width {
@@ -77,7 +77,7 @@ fn short(number: u32, held: usize, needed: u32) -> u32
 }
 
 // Of two checks, in this order.
-fn or_else(first: u32, second: u32) -> u32
+pub fn or_else(first: u32, second: u32) -> u32
     ensures { λ r. ⌜ r ≡ orElse first second ⌝ }
 {
     if first != 0 {
@@ -100,7 +100,7 @@ fn check_graph(a: Answer, nodes: usize, segments: usize, points: usize) -> u32
 }
 
 // Of the words lent for references, contours and faces: 7 to 9.
-fn check_faces(a: Answer, references: usize, contours: usize, faces: usize) -> u32
+pub fn check_faces(a: Answer, references: usize, contours: usize, faces: usize) -> u32
     ensures { λ r. ⌜ FaceRoom a references contours faces r ⌝ }
 {
     or_else(
@@ -153,7 +153,7 @@ fn most(s: Size) -> Answer
 // STEPS
 
 // The work store's first eight planes to 0.
-fn clear(s: Size, work: &mut [u32])
+pub fn clear(s: Size, work: &mut [u32])
     requires { ⌜ (s .width ≤ 16384) × (s .height ≤ 16384) × (8 * plane (s .width) (s .height) ≤ length (now work)) ⌝ }
     ensures { λ _. ⌜ now (work .exit) ≡ sets (now (work .entry)) 0 (replicate (8 * plane (s .width) (s .height)) 0) ⌝ }
 {
@@ -161,7 +161,7 @@ fn clear(s: Size, work: &mut [u32])
 }
 
 // The graph's counts, without a word written.
-fn count_graph(s: Size, labels: &[u32], work: &mut [u32]) -> Counts
+pub fn count_graph(s: Size, labels: &[u32], work: &mut [u32]) -> Counts
     requires { ⌜ Map s (now labels) ⌝ ∗ ⌜ 8 * plane (s .width) (s .height) ≤ length (now work) ⌝ }
     ensures { λ r. ⌜ CountsGraph s (now (labels .entry)) (now (work .entry)) (now (work .exit)) r ⌝ }
 {
@@ -199,7 +199,7 @@ fn answer_whole(c: Counts, f: face::Counts) -> Answer
 }
 
 // The counts of the faces beside the graph's.
-fn count_faces(s: Size, labels: &[u32], work: &mut [u32], c: Counts) -> Answer
+pub fn count_faces(s: Size, labels: &[u32], work: &mut [u32], c: Counts) -> Answer
     requires { ⌜ Map s (now labels) ⌝ ∗ ⌜ 8 * plane (s .width) (s .height) ≤ length (now work) ⌝ ∗ ⌜ GraphCounted s (now labels) (now work) c ⌝ }
     ensures { λ r. ⌜ CountsFaces s (now (labels .entry)) (now (work .entry)) c (now (work .exit)) r ⌝ }
 {
