@@ -32,7 +32,8 @@
  *   2      the label count is not width x height
  *   3      the work store is shorter than 8 x (width+1) x (height+1) words
  *   4 5 6  the node, segment, point store holds fewer records than the map needs     (graph and whole)
- *   7 8 9  the reference, contour, face store likewise                               (whole)
+ *   7 8 9  the reference, contour, face store likewise                               (whole and assemble)
+ *   15     the graph handed in does not describe the map; asked after 3, before 7    (assemble)
  *
  *                        after 1, 2, 3     after 4 to 9              after 0
  *   counts               all 0             the map's true counts     the map's true counts
@@ -87,7 +88,8 @@ enum mosaic_number {
     MOSAIC_SHORT_POINTS = 6,
     MOSAIC_SHORT_REFERENCES = 7,
     MOSAIC_SHORT_CONTOURS = 8,
-    MOSAIC_SHORT_FACES = 9
+    MOSAIC_SHORT_FACES = 9,
+    MOSAIC_STRANGE_GRAPH = 15
 };
 
 enum mosaic_direction { MOSAIC_NORTH = 0, MOSAIC_EAST = 1, MOSAIC_SOUTH = 2, MOSAIC_WEST = 3 };
@@ -173,6 +175,33 @@ void mosaic_whole(uint32_t mode, uint32_t width, uint32_t height, uint32_t paint
                   uint32_t *contours, size_t contours_len,
                   uint32_t *faces, size_t faces_len,
                   mosaic_answer *answer);
+
+/*
+ * A GRAPH FROM ANOTHER WRITER. mosaic_graph traces, mosaic_assemble makes the faces: the two in turn leave what mosaic_whole does. The graph
+ * may come from elsewhere, with its nodes and segments in any order, segments and rings in either direction and rings from any of their
+ * corners; the parts of the point store may overlap and leave gaps. It is accepted exactly when it describes the map in this mode:
+ *
+ *   - the counted records lie inside the node and segment stores, and each segment's part inside the point store;
+ *   - the nodes are the corners where three or four cuts meet, each once;
+ *   - a segment has a step, each step is a crack, and each crack one step of one segment, in one direction;
+ *   - a segment with a start and an end node runs from the one to the other with no node between; one with neither closes and meets none;
+ *   - regions and directions are those of its first step and its last, a ring's last direction 0; a node's out entries are the
+ *     references that leave it, MOSAIC_NONE where there is no crack.
+ *
+ * Any other graph is answered 15. Words past the counted records, and points of no part, are not looked at. After 15, and 7 to 9, counts and
+ * stores are as after 9: the counts are the map's own, whatever the graph. The graph's stores are only read; what a caller owes for a
+ * store holds for them, but they may overlap one another and the labels.
+ */
+void mosaic_assemble(uint32_t mode, uint32_t width, uint32_t height, uint32_t paints,
+                     const uint32_t *labels, size_t labels_len,
+                     uint32_t *work, size_t work_len,
+                     const uint32_t *nodes, size_t nodes_len, uint32_t node_count,
+                     const uint32_t *segments, size_t segments_len, uint32_t segment_count,
+                     const uint32_t *points, size_t points_len,
+                     uint32_t *references, size_t references_len,
+                     uint32_t *contours, size_t contours_len,
+                     uint32_t *faces, size_t faces_len,
+                     mosaic_answer *answer);
 
 #ifdef __cplusplus
 }

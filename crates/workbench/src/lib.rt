@@ -52,10 +52,9 @@ pub fn assemble(
         c.nodes,
         c.steps,
     );
-    let number = calls::or_else(
-        check_given(fits),
-        calls::check_faces(a, references.len(), contours.len(), faces.len()),
-    );
+    let strange = check_given(fits);
+    let short = calls::check_faces(a, references.len(), contours.len(), faces.len());
+    let number = calls::or_else(strange, short);
     a.number = number;
     if number != 0 {
         calls::clear(s, work);
