@@ -38,6 +38,8 @@
  *   17     before a merge, the colours have another length than 3 x paints bytes,
  *          or the region store is shorter than 12 x paints words                     (merge, after 3)
  *   11     the layers, their masks or the labels are not whole; asked after 1        (mosaic_layers)
+ *   7 8 9  the reference, contour, face store likewise                               (whole and assemble)
+ *   15     the graph handed in does not describe the map; asked after 3, before 7    (assemble)
  *
  *                        after 1, 2, 3     after 4 to 9, and 16      after 0
  *   counts               all 0             the map's true counts     the map's true counts
@@ -103,7 +105,8 @@ enum mosaic_number {
     MOSAIC_BAD_SHEET = 16,
     MOSAIC_UNPAINTED_LABEL = 12,
     MOSAIC_MERGE_STORES = 17,
-    MOSAIC_LAYERS_NOT_WHOLE = 11
+    MOSAIC_LAYERS_NOT_WHOLE = 11,
+    MOSAIC_STRANGE_GRAPH = 15
 };
 
 enum mosaic_direction { MOSAIC_NORTH = 0, MOSAIC_EAST = 1, MOSAIC_SOUTH = 2, MOSAIC_WEST = 3 };
@@ -274,6 +277,33 @@ uint32_t mosaic_layers(uint32_t width, uint32_t height,
                        const uint32_t *layers, mosaic_length layers_len,
                        const uint8_t *masks, mosaic_length masks_len,
                        uint32_t *labels, mosaic_length labels_len);
+
+/*
+ * A GRAPH FROM ANOTHER WRITER. mosaic_graph traces, mosaic_assemble makes the faces: the two in turn leave what mosaic_whole does. The graph
+ * may come from elsewhere, with its nodes and segments in any order, segments and rings in either direction and rings from any of their
+ * corners; the parts of the point store may overlap and leave gaps. It is accepted exactly when it describes the map in this mode:
+ *
+ *   - the counted records lie inside the node and segment stores, and each segment's part inside the point store;
+ *   - the nodes are the corners where three or four cuts meet, each once;
+ *   - a segment has a step, each step is a crack, and each crack one step of one segment, in one direction;
+ *   - a segment with a start and an end node runs from the one to the other with no node between; one with neither closes and meets none;
+ *   - regions and directions are those of its first step and its last, a ring's last direction 0; a node's out entries are the
+ *     references that leave it, MOSAIC_NONE where there is no crack.
+ *
+ * Any other graph is answered 15. Words past the counted records, and points of no part, are not looked at. After 15, and 7 to 9, counts and
+ * stores are as after 9: the counts are the map's own, whatever the graph. The graph's stores are only read; what a caller owes for a
+ * store holds for them, but they may overlap one another and the labels.
+ */
+void mosaic_assemble(uint32_t mode, uint32_t width, uint32_t height, uint32_t paints,
+                     const uint32_t *labels, mosaic_length labels_len,
+                     uint32_t *work, mosaic_length work_len,
+                     const uint32_t *nodes, mosaic_length nodes_len, uint32_t node_count,
+                     const uint32_t *segments, mosaic_length segments_len, uint32_t segment_count,
+                     const uint32_t *points, mosaic_length points_len,
+                     uint32_t *references, mosaic_length references_len,
+                     uint32_t *contours, mosaic_length contours_len,
+                     uint32_t *faces, mosaic_length faces_len,
+                     mosaic_answer *answer);
 
 #ifdef __cplusplus
 }

@@ -105,7 +105,7 @@ fn dir_from_delta(x: u32, y: u32, u: u32, v: u32) -> u32
 }
 
 // The step from the point i to the point j.
-fn step(points: &[u32], i: usize, j: usize) -> Walker
+pub fn step(points: &[u32], i: usize, j: usize) -> Walker
     requires { ⌜ i ≤ 8589934592 ⌝ ∗ ⌜ j ≤ 8589934592 ⌝ }
     ensures { λ w. ⌜ w ≡ stepIn (now (points .entry)) i j ⌝ }
 {

@@ -30,7 +30,7 @@ pub struct Answer {
 }
 
 // The answer to a map that was not looked at.
-fn refuse(number: u32) -> Answer
+pub fn refuse(number: u32) -> Answer
     ensures { λ r. ⌜ answerOf r ≡ refused number ⌝ }
 {
     Answer {
@@ -100,7 +100,7 @@ fn check_graph(a: Answer, nodes: usize, segments: usize, points: usize) -> u32
 }
 
 // Of the words lent for references, contours and faces: 7 to 9.
-fn check_faces(a: Answer, references: usize, contours: usize, faces: usize) -> u32
+pub fn check_faces(a: Answer, references: usize, contours: usize, faces: usize) -> u32
     ensures { λ r. ⌜ FaceRoom a references contours faces r ⌝ }
 {
     or_else(
@@ -161,7 +161,7 @@ pub fn clear(s: Size, work: &mut [u32])
 }
 
 // The graph's counts, without a word written.
-fn count_graph(s: Size, labels: &[u32], work: &mut [u32]) -> Counts
+pub fn count_graph(s: Size, labels: &[u32], work: &mut [u32]) -> Counts
     requires { ⌜ Map s (now labels) ⌝ ∗ ⌜ 8 * plane (s .width) (s .height) ≤ length (now work) ⌝ }
     ensures { λ r. ⌜ CountsGraph s (now (labels .entry)) (now (work .entry)) (now (work .exit)) r ⌝ }
 {
@@ -199,7 +199,7 @@ fn answer_whole(c: Counts, f: face::Counts) -> Answer
 }
 
 // The counts of the faces beside the graph's.
-fn count_faces(s: Size, labels: &[u32], work: &mut [u32], c: Counts) -> Answer
+pub fn count_faces(s: Size, labels: &[u32], work: &mut [u32], c: Counts) -> Answer
     requires { ⌜ Map s (now labels) ⌝ ∗ ⌜ 8 * plane (s .width) (s .height) ≤ length (now work) ⌝ ∗ ⌜ GraphCounted s (now labels) (now work) c ⌝ }
     ensures { λ r. ⌜ CountsFaces s (now (labels .entry)) (now (work .entry)) c (now (work .exit)) r ⌝ }
 {

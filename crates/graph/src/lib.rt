@@ -95,7 +95,7 @@ fn edge_slot(s: Size, w: Walker) -> usize
     }
 }
 
-fn is_visited(s: Size, work: &[u32], w: Walker) -> bool
+pub fn is_visited(s: Size, work: &[u32], w: Walker) -> bool
     requires { ⌜ Sides s ⌝ ∗ ⌜ Edge s w ⌝ ∗ ⌜ 2 * plane (s .width) (s .height) ≤ length (now work) ⌝ }
     ensures { λ r. ⌜ r ≡ marked (s .width) (s .height) (now (work .entry)) (dartOf w) ⌝ }
 {
@@ -103,7 +103,7 @@ fn is_visited(s: Size, work: &[u32], w: Walker) -> bool
     work[i] != 0
 }
 
-fn mark_visited(s: Size, work: &mut [u32], w: Walker)
+pub fn mark_visited(s: Size, work: &mut [u32], w: Walker)
     requires { ⌜ Sides s ⌝ ∗ ⌜ Edge s w ⌝ ∗ ⌜ 2 * plane (s .width) (s .height) ≤ length (now work) ⌝ }
     ensures { λ _. ⌜ now (work .exit) ≡ set (now (work .entry)) (slot (s .width) (s .height) (dartOf w)) 1 ⌝ }
 {

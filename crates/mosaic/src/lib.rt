@@ -2,6 +2,7 @@
 pub mod on_sheet;
 pub mod merging;
 pub mod flatten;
+pub mod bench;
 
 use calls::Answer;
 use lattice::Size;

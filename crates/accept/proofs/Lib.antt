@@ -1,0 +1,14 @@
+pub mod Tests
+pub mod Exact
+pub mod Described
+pub mod Drawn
+pub mod Traced
+pub mod Stepping
+pub mod Walking
+pub mod Checks
+pub mod Segmenting
+pub mod Fielding
+pub mod Trying
+pub mod Noding
+pub mod Summing
+pub mod Accepting

@@ -1,0 +1,4 @@
+pub mod Assembled
+pub mod Benched
+pub mod Together
+pub mod Demands
