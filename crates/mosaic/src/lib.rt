@@ -3,6 +3,7 @@ pub mod on_sheet;
 pub mod merging;
 pub mod flatten;
 pub mod bench;
+pub mod listings;
 
 use calls::Answer;
 use lattice::Size;
