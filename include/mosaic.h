@@ -200,7 +200,7 @@ void mosaic_whole(uint32_t mode, uint32_t width, uint32_t height, uint32_t paint
  * mosaic_move gives the moves of a cut list one at a time: for each segment in order a travel to its first corner, then a cut for each
  * step; then the end, at every later call. A map's steps are the cuts. The corner (x, y) lies at x x sheet_width / width, multiplied
  * and then divided in doubles, and for x = width at sheet_width itself; y likewise. No move of a list that mosaic_sheet_whole
- * answered 0 for leaves the sheet.
+ * answered 0 for leaves the sheet, and on a sheet with sides of 1 mm or more no cut has length zero.
  *
  * `segments` and `points` are the stores of the call, `count` its answer's segments. `at` has two words, {0, 0} for the first move;
  * each call leaves the place of the next move there. `reversed` is 0 to read each segment from its first point to its last, any other

@@ -12,7 +12,7 @@ use Rattle.reader.specs.Reading.{Said as Read, said as readSaid}
 use Rattle.reader.specs.declared.Corner.{Corner}
 use Rattle.reader.specs.declared.Corner.the-variants.{At as CornerAt, End as CornerEnd, Outside as CornerOutside}
 use Rattle.sheet.specs.Sheet.{float, unfit, unfitSheet, Action, travel, cut, end}
-use Rattle.sheet.specs.Moving.{Said, said, sayTo, asMove, sayAt, firstOf, countOf, isOver, onwardFrom, movedTo, tellThere, tellOf}
+use Rattle.sheet.specs.Moving.{Said, said, sayTo, asMove, sayAt, firstOf, countOf, isOver, onwardFrom, movedTo, tellThere}
 use Rattle.sheet.specs.declared.Sheet.{Sheet}
 use Rattle.sheet.specs.declared.Move.{Move}
 use Rattle.sheet.specs.declared.Move.the-variants.{Travel, Cut, End, Outside}

@@ -1,7 +1,7 @@
 -- No cut has length zero, on a sheet that a shop can own: a step leads to a neighbouring corner, and different corners have different places.
 use Prim.Native.Nat.{ℕ, zero, suc, _≤_, _<_}
-use mathlib.Core.Bool.{Bool, true, false, _&&_, _||_}
-use mathlib.Core.Path.{_≡_, refl, sym, ap, subst, _∙_}
+use mathlib.Core.Bool.{Bool, true, false, _||_}
+use mathlib.Core.Path.{_≡_, refl, sym, ap, subst}
 use mathlib.Core.List.{List, [], _∷_, _++_, map, List·Memᴰ as In, List·Memᴰ·head as here, List·Memᴰ·tail as there, Memᴰ·of-map as of-map}
 use native.Mathlib.Omega.{arith}
 use lib.Dec.{T}

@@ -8,7 +8,7 @@ use native.Mathlib.Nat.{suc-add, add-comm}
 use native.Mathlib.Omega.{arith}
 use lib.Dec.{T}
 use lib.ListN.{length, getD, replicate}
-use lib.Ieee.{binary64, le, fits, ofBits}
+use lib.Ieee.{binary64, fits, ofBits}
 use lib.Ieee.Fits.{and-i, and-l, and-r}
 use lib.Ieee.Bits.{ofBits-fits}
 use Rattle.rules.specs.Picture.{picture, Dart, crack}
@@ -30,7 +30,7 @@ use Rattle.sheet.specs.declared.Sheet.{Sheet}
 use Rattle.sheet.specs.declared.Mover.{Mover}
 use Rattle.sheet.specs.declared.Move.the-variants.{End}
 use Rattle.sheet.proofs.Moves.{way, way-cracked, corner-on-map, whole-moves}
-use Rattle.sheet.proofs.Within.{along-within, along-mono}
+use Rattle.sheet.proofs.Within.{along-within}
 
 -- a sheet made of any two words of 64 bits
 pub words-are-doubles : (a b : ℕ) → T (doubles (sheetWith (ofBits binary64 a) (ofBits binary64 b)))
@@ -62,13 +62,6 @@ module _ (t : Sheet) (d : T (doubles t)) (e : unfitSheet t ≡ false) (w h : ℕ
 
   pub down-within : (y : ℕ) → y ≤ h → T (within (downOf t h y) (t .height))
   down-within y k = along-within (t .height) high-double (fit-high t e) h H y k
-
-  -- and a corner further on lies no nearer to 0
-  pub across-mono : (x x′ : ℕ) → x ≤ x′ → x′ ≤ w → T (le (acrossOf t w x) (acrossOf t w x′))
-  across-mono x x′ k l = along-mono (t .width) wide-double (fit-wide t e) w W x x′ k l
-
-  pub down-mono : (y y′ : ℕ) → y ≤ y′ → y′ ≤ h → T (le (downOf t h y) (downOf t h y′))
-  down-mono y y′ k l = along-mono (t .height) high-double (fit-high t e) h H y y′ k l
 
   point-on : (c : ℕ × ℕ) → (c .0 ≤ w) × (c .1 ≤ h) → T (within (acrossOf t w (c .0)) (t .width) && within (downOf t h (c .1)) (t .height))
   point-on c k =
