@@ -9,3 +9,4 @@ pub mod Settled
 pub mod Called
 pub mod Tables
 pub mod Demands
+pub mod Answers
