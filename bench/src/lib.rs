@@ -106,11 +106,11 @@ pub struct Lent {
     stores: [Vec<u32>; 6],
 }
 
-/// Words of a record in each of the six stores.
 /// Each label read as it is.
 const PLAIN: u32 = 0;
 
-const RECORD: [usize; 6] = [6, 8, 2, 1, 2, 3];
+/// Words of a record in each of the six stores.
+const RECORD: [usize; 6] = [6, 8, 2, 1, 2, 5];
 
 impl Lent {
     /// A work store alone.

@@ -45,6 +45,8 @@ static void spoil(uint32_t *words, uint32_t *row)
         work[row[7] - 1] ^= 1; /* a work word left, or one beyond its part touched */
     if (FAULT == 3 && done && row[0] == 2 && answer[6])
         faces[2]++; /* a wrong word in a record */
+    if (FAULT == 8 && done && row[0] == 2 && answer[6])
+        faces[3]++; /* another first pixel */
     if (FAULT == 4 && done)
         words[row[8] + row[9]]++; /* a word past a store */
     if (FAULT == 5 && done)

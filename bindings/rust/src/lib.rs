@@ -29,7 +29,8 @@ mod merge;
 
 pub use cutter::{cut, cut_in, Cutter, Map, Mode, Refusal};
 pub use list::{
-    Contour, CutList, Direction, Face, Node, NodeId, Point, RegionId, SegRef, Segment, SegmentId,
+    Contour, CutList, Direction, Face, Node, NodeId, Pixel, Point, RegionId, SegRef, Segment,
+    SegmentId,
 };
 pub use sheet::{cut_on_sheet, Move, Moves, OnSheet, Sheet};
 pub use merge::{merge_similar, merge_words, Merged, Unmerged, REGION_WORDS};
