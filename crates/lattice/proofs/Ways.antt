@@ -81,8 +81,8 @@ pub last-row : (m : ℕ) → 15 ≤ m → getD nodeMasks m true ≡ true
 unfolding nodeMasks
 last-row m h =
     elim (ℕ-discrete m 15) [
-      yes e ↦ ap (λ m. getD nodeMasks m true) e
-    | no k ↦ List·getD-eq-default nodeMasks true {n = m} (omega arith)
+      | yes e ↦ ap (λ m. getD nodeMasks m true) e
+      | no k ↦ List·getD-eq-default nodeMasks true {n = m} (omega arith)
     ]
 
 -- one cut alone: a mask that no corner has

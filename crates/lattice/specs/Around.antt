@@ -31,22 +31,22 @@ nodeIn a = leb 3 (degreeIn a)
 -- the same by mask, row by row, to be read beside the definition (document 02, #105); `no-mask-of-one` shows the four that no corner has
 unfoldable pub nodeMasks : List Bool
 nodeMasks =
-    false ∷ -- 0: no cut
-    false ∷ -- 1: N alone: at no corner
-    false ∷ -- 2: E alone: at no corner
-    false ∷ -- 3: N and E
-    false ∷ -- 4: S alone: at no corner
-    false ∷ -- 5: N and S
-    false ∷ -- 6: E and S
-    true ∷ -- 7: N, E and S
-    false ∷ -- 8: W alone: at no corner
-    false ∷ -- 9: N and W
-    false ∷ -- 10: E and W
-    true ∷ -- 11: N, E and W
-    false ∷ -- 12: S and W
-    true ∷ -- 13: N, S and W
-    true ∷ -- 14: E, S and W
-    true ∷ -- 15: all four
+    false ∷  -- 0: no cut
+    false ∷  -- 1: N alone: at no corner
+    false ∷  -- 2: E alone: at no corner
+    false ∷  -- 3: N and E
+    false ∷  -- 4: S alone: at no corner
+    false ∷  -- 5: N and S
+    false ∷  -- 6: E and S
+    true ∷  -- 7: N, E and S
+    false ∷  -- 8: W alone: at no corner
+    false ∷  -- 9: N and W
+    false ∷  -- 10: E and W
+    true ∷  -- 11: N, E and W
+    false ∷  -- 12: S and W
+    true ∷  -- 13: N, S and W
+    true ∷  -- 14: E, S and W
+    true ∷  -- 15: all four
     []
 
 -- a way on, and the first of them, for a walk that arrives with the heading d

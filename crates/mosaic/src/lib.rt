@@ -1,9 +1,9 @@
 // The library for C programs: each function is one of the calls. A slice is a pointer and a length, the answer a pointer to eight words.
-pub mod on_sheet;
-pub mod merging;
-pub mod flatten;
 pub mod bench;
+pub mod flatten;
 pub mod listings;
+pub mod merging;
+pub mod on_sheet;
 
 use calls::Answer;
 use lattice::Size;
