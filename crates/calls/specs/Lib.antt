@@ -1,3 +1,4 @@
 pub mod Outcome
 pub mod Counted
 pub mod Steps
+pub mod Mode

@@ -14,6 +14,7 @@ ghost use Rattle.lattice.specs.Size.{Sides, Map, pic};
 ghost use Rattle.lattice.specs.Planes.{plane};
 ghost use Rattle.assemble.specs.Assembly.{Standing};
 ghost use Rattle.calls.specs.Outcome.{mapOf, answerOf, graphAnswer, withFaces, outcome};
+ghost use Rattle.calls.specs.Mode.{sizeIn};
 ghost use Rattle.calls.specs.Counted.{orElse, GraphRoom, FaceRoom, AllRoom, mostOf};
 ghost use Rattle.calls.specs.Steps.{GraphCounted, CountsGraph, CountsFaces, GraphRoomy, GraphWritten, FacesRoomy, FacesWritten};
 
@@ -27,6 +28,19 @@ pub struct Answer {
     pub contours: u32,
     pub faces: u32,
     pub steps: u32,
+}
+
+// The map that a mode and three numbers mean.
+pub fn sized(mode: u32, width: u32, height: u32, paints: u32) -> Size
+    ensures { λ r. ⌜ r ≡ sizeIn mode width height paints ⌝ }
+{
+    let bound = if mode == 0 { lattice::OUTSIDE } else { paints };
+    Size {
+        width,
+        height,
+        paints,
+        bound,
+    }
 }
 
 // The answer to a map that was not looked at.

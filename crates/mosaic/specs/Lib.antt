@@ -1,2 +1,1 @@
-pub mod Mode
 pub mod Moved

@@ -4,7 +4,7 @@ ghost use mathlib.Core.List.{[], _∷_};
 ghost use Rattle.accept.specs.Walks.{given};
 ghost use Rattle.calls.specs.Outcome.{answered};
 ghost use Rattle.workbench.specs.Bench.{assemble as assembleOf};
-ghost use Rattle.mosaic.specs.Mode.{mapIn};
+ghost use Rattle.calls.specs.Mode.{mapIn};
 
 #[no_mangle]
 pub extern "C" fn mosaic_assemble(
@@ -26,7 +26,7 @@ pub extern "C" fn mosaic_assemble(
 )
     ensures { λ _. ⌜ answered (now (answer .exit)) (now (work .exit) ∷ now (references .exit) ∷ now (contours .exit) ∷ now (faces .exit) ∷ []) ≡ assembleOf (mapIn mode width height paints (now (labels .entry))) (given (now (nodes .entry)) «node_count» (now (segments .entry)) «segment_count» (now (points .entry))) (now (work .entry)) (now (references .entry)) (now (contours .entry)) (now (faces .entry)) ⌝ }
 {
-    let s = crate::sized(mode, width, height, paints);
+    let s = calls::sized(mode, width, height, paints);
     crate::put_answer(
         answer,
         workbench::assemble(

@@ -6,12 +6,11 @@ pub mod merging;
 pub mod on_sheet;
 
 use calls::Answer;
-use lattice::Size;
 ghost use mathlib.Core.Path.{_≡_};
 ghost use mathlib.Core.List.{[], _∷_};
 ghost use Rattle.rules.specs.Calls.{size as sizeOf, graph as graphOf, whole as wholeOf};
 ghost use Rattle.calls.specs.Outcome.{answerWords, answered};
-ghost use Rattle.mosaic.specs.Mode.{sizeIn, mapIn};
+ghost use Rattle.calls.specs.Mode.{mapIn};
 
 // MOSAIC_VERSION of the header that this library goes with.
 #[no_mangle]
@@ -19,19 +18,6 @@ pub extern "C" fn mosaic_version() -> u32
     ensures { λ r. ⌜ r ≡ 20000 ⌝ }
 {
     20000
-}
-
-// The map that a mode and three numbers mean.
-pub fn sized(mode: u32, width: u32, height: u32, paints: u32) -> Size
-    ensures { λ r. ⌜ r ≡ sizeIn mode width height paints ⌝ }
-{
-    let bound = if mode == 0 { lattice::OUTSIDE } else { paints };
-    Size {
-        width,
-        height,
-        paints,
-        bound,
-    }
 }
 
 fn put_answer(answer: &mut [u32; 8], a: Answer)
@@ -61,7 +47,7 @@ pub extern "C" fn mosaic_size(
 )
     ensures { λ _. ⌜ answered (now (answer .exit)) (now (work .exit) ∷ []) ≡ sizeOf (mapIn mode width height paints (now (labels .entry))) (now (work .entry)) ⌝ }
 {
-    let s = sized(mode, width, height, paints);
+    let s = calls::sized(mode, width, height, paints);
     put_answer(answer, calls::size(s, labels, work));
 }
 
@@ -80,7 +66,7 @@ pub extern "C" fn mosaic_graph(
 )
     ensures { λ _. ⌜ answered (now (answer .exit)) (now (work .exit) ∷ now (nodes .exit) ∷ now (segments .exit) ∷ now (points .exit) ∷ []) ≡ graphOf (mapIn mode width height paints (now (labels .entry))) (now (work .entry)) (now (nodes .entry)) (now (segments .entry)) (now (points .entry)) ⌝ }
 {
-    let s = sized(mode, width, height, paints);
+    let s = calls::sized(mode, width, height, paints);
     put_answer(
         answer,
         calls::graph(s, labels, work, nodes, segments, points),
@@ -105,7 +91,7 @@ pub extern "C" fn mosaic_whole(
 )
     ensures { λ _. ⌜ answered (now (answer .exit)) (now (work .exit) ∷ now (nodes .exit) ∷ now (segments .exit) ∷ now (points .exit) ∷ now (references .exit) ∷ now (contours .exit) ∷ now (faces .exit) ∷ []) ≡ wholeOf (mapIn mode width height paints (now (labels .entry))) (now (work .entry)) (now (nodes .entry)) (now (segments .entry)) (now (points .entry)) (now (references .entry)) (now (contours .entry)) (now (faces .entry)) ⌝ }
 {
-    let s = sized(mode, width, height, paints);
+    let s = calls::sized(mode, width, height, paints);
     put_answer(
         answer,
         calls::whole(

@@ -1,10 +1,9 @@
 // The listing of the pieces whose labels are named, for C programs (document 02, #110). The answer is a pointer to two words.
-use crate::sized;
 ghost use mathlib.Core.Path.{_≡_};
 ghost use mathlib.Core.List.{[], _∷_};
 ghost use Rattle.benches.specs.Listing.{listing as listingCall};
 ghost use Rattle.listing.specs.Listed.{listedWords};
-ghost use Rattle.mosaic.specs.Mode.{mapIn};
+ghost use Rattle.calls.specs.Mode.{mapIn};
 
 #[no_mangle]
 pub extern "C" fn mosaic_listing(
@@ -20,7 +19,7 @@ pub extern "C" fn mosaic_listing(
 )
     ensures { λ _. ⌜ listedWords (now (answer .exit)) (now (work .exit) ∷ now (words .exit) ∷ []) ≡ listingCall (mapIn mode width height paints (now (labels .entry))) (now (work .entry)) (now (named .entry)) (now (words .entry)) ⌝ }
 {
-    let s = sized(mode, width, height, paints);
+    let s = calls::sized(mode, width, height, paints);
     let a = listing::listing(s, labels, work, named, words);
     *answer = [a.number, a.length];
 }

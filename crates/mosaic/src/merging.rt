@@ -2,7 +2,7 @@
 ghost use mathlib.Core.Path.{_≡_};
 ghost use Rattle.merge.specs.Merge.{merge as mergeOf};
 ghost use Rattle.merge.specs.Called.{answered};
-ghost use Rattle.mosaic.specs.Mode.{mapIn};
+ghost use Rattle.calls.specs.Mode.{mapIn};
 
 #[no_mangle]
 pub extern "C" fn mosaic_merge(
@@ -18,7 +18,7 @@ pub extern "C" fn mosaic_merge(
 )
     ensures { λ _. ⌜ answered (now (answer .exit)) (now (labels .exit)) (now (colours .exit)) (now (work .exit)) (now (regions .exit)) ≡ mergeOf (mapIn 0 width height paints (now (labels .entry))) limit (now (colours .entry)) (now (work .entry)) (now (regions .entry)) ⌝ }
 {
-    let s = crate::sized(0, width, height, paints);
+    let s = calls::sized(0, width, height, paints);
     let a = merge::merge(s, limit, labels, colours, work, regions);
     *answer = [a.number, a.paints];
 }

@@ -11,7 +11,7 @@ ghost use Rattle.sheet.specs.Sheet.{sheetWith};
 ghost use Rattle.sheet.specs.Within.{NoMoveLeaves};
 ghost use Rattle.sheet.specs.Call.{wholeOnSheet};
 ghost use Rattle.sheet.specs.Moving.{said, tellOf};
-ghost use Rattle.mosaic.specs.Mode.{mapIn};
+ghost use Rattle.calls.specs.Mode.{mapIn};
 ghost use Rattle.mosaic.specs.Moved.{codeOf, pointAfter, moverAt, MoveTold};
 
 // The whole cut list of a map that is to be cut from a sheet.
@@ -40,7 +40,7 @@ pub extern "C" fn mosaic_sheet_whole(
         width: sheet_width,
         height: sheet_height,
     };
-    let s = crate::sized(mode, width, height, paints);
+    let s = calls::sized(mode, width, height, paints);
     crate::put_answer(
         answer,
         sheet::whole_on_sheet(

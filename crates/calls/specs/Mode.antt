@@ -1,4 +1,4 @@
--- The map that a C program means by a mode and three numbers.
+-- The map that a mode and three numbers mean.
 use Prim.Native.Nat.{ℕ}
 use mathlib.Core.Bool.{true, false}
 use mathlib.Core.List.{List}

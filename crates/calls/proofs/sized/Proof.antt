@@ -1,8 +1,8 @@
--- `mosaic::sized` meets its contract.
+-- `calls::sized` meets its contract.
 use borrow.Author.Tests.{eq-eqb, ne-eqb}
-use Rattle.mosaic.specs.Mode.{boundIn}
-use Rattle.mosaic.proofs.sized.Statement.{statement}
-use Rattle.mosaic.proofs.sized.Tie as tie
+use Rattle.calls.specs.Mode.{boundIn}
+use Rattle.calls.proofs.sized.Statement.{statement}
+use Rattle.calls.proofs.sized.Tie as tie
 
 returns : tie.Need-returns
 returns c = rw (eq-eqb (c .before .args .mode) 0 (c .if1 .taken), boundIn)
