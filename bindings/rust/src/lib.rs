@@ -20,10 +20,12 @@
 //!
 //! [`cut`] lends the library its stores; [`ffi`] has the calls themselves, for a caller with stores of its own.
 
+mod assemble;
 mod cutter;
 pub mod ffi;
 mod list;
 
+pub use assemble::{assemble, Graph, NotAssembled};
 pub use cutter::{cut, Cutter, Map, Refusal};
 pub use list::{
     Contour, CutList, Direction, Face, Node, NodeId, Point, RegionId, SegRef, Segment, SegmentId,
