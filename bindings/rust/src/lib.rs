@@ -20,6 +20,7 @@
 //!
 //! [`cut`] lends the library its stores; [`ffi`] has the calls themselves, for a caller with stores of its own.
 
+mod assemble;
 mod cutter;
 pub mod ffi;
 pub mod layers;
@@ -28,6 +29,8 @@ pub mod sheet;
 mod merge;
 
 pub use cutter::{cut, cut_in, Cutter, Map, Mode, Refusal};
+pub use assemble::{assemble, Graph, NotAssembled};
+pub use cutter::{cut, Cutter, Map, Refusal};
 pub use list::{
     Contour, CutList, Direction, Face, Node, NodeId, Pixel, Point, RegionId, SegRef, Segment,
     SegmentId,
