@@ -23,6 +23,7 @@
 mod cutter;
 pub mod ffi;
 mod list;
+pub mod listing;
 
 pub use cutter::{cut, Cutter, Map, Refusal};
 pub use list::{
