@@ -40,6 +40,7 @@
  *   11     the layers, their masks or the labels are not whole; asked after 1        (mosaic_layers)
  *   7 8 9  the reference, contour, face store likewise                               (whole and assemble)
  *   15     the graph handed in does not describe the map; asked after 3, before 7    (assemble)
+ *   13     the listing store is shorter than the listing                             (listing)
  *
  *                        after 1, 2, 3     after 4 to 9, and 16      after 0
  *   counts               all 0             the map's true counts     the map's true counts
@@ -106,7 +107,8 @@ enum mosaic_number {
     MOSAIC_UNPAINTED_LABEL = 12,
     MOSAIC_MERGE_STORES = 17,
     MOSAIC_LAYERS_NOT_WHOLE = 11,
-    MOSAIC_STRANGE_GRAPH = 15
+    MOSAIC_STRANGE_GRAPH = 15,
+    MOSAIC_SHORT_LISTING = 13
 };
 
 enum mosaic_direction { MOSAIC_NORTH = 0, MOSAIC_EAST = 1, MOSAIC_SOUTH = 2, MOSAIC_WEST = 3 };
@@ -305,6 +307,30 @@ void mosaic_assemble(uint32_t mode, uint32_t width, uint32_t height, uint32_t pa
                      uint32_t *contours, mosaic_length contours_len,
                      uint32_t *faces, mosaic_length faces_len,
                      mosaic_answer *answer);
+
+/*
+ * A BENCH'S LISTING of its pieces, by unit steps, apart from the cut list. A bench names its labels; one that stands twice counts once,
+ * and one that is not painted has no pieces. In words: for each face whose region is named, in the order of the faces, its region and
+ * contour count; for each of its contours the step count; for each step x, y and direction. A contour starts with its earliest step, by
+ * y, then x, then direction, and a face's contours stand in the order of their first steps.
+ *
+ * The listing depends on where the named labels lie and on nothing else: however the other labels are changed among themselves, and in
+ * either mode, it is the same, word for word. It has at most 15 x (width+1) x (height+1) words.
+ *
+ * The answer is two words. The checks are 1, 2, 3 and 13; after any of them the length is 0 and no word of the listing store is written.
+ * The work store is treated as by mosaic_whole: untouched after 1, 2 and 3, its first 8 x (width+1) x (height+1) words 0 after 13 and 0.
+ */
+typedef struct mosaic_listing_answer {
+    uint32_t number;
+    uint32_t length; /* of the listing, in words; 0 when refused */
+} mosaic_listing_answer;
+
+void mosaic_listing(uint32_t mode, uint32_t width, uint32_t height, uint32_t paints,
+                    const uint32_t *labels, mosaic_length labels_len,
+                    uint32_t *work, mosaic_length work_len,
+                    const uint32_t *named, mosaic_length named_len,
+                    uint32_t *words, mosaic_length words_len,
+                    mosaic_listing_answer *answer);
 
 #ifdef __cplusplus
 }

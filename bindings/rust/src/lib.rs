@@ -27,6 +27,7 @@ pub mod layers;
 mod list;
 pub mod sheet;
 mod merge;
+pub mod listing;
 
 pub use cutter::{cut, cut_in, Cutter, Map, Mode, Refusal};
 pub use assemble::{assemble, Graph, NotAssembled};
