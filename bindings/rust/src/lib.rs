@@ -25,16 +25,15 @@ mod cutter;
 pub mod ffi;
 pub mod layers;
 mod list;
-pub mod sheet;
-mod merge;
 pub mod listing;
+mod merge;
+pub mod sheet;
 
-pub use cutter::{cut, cut_in, Cutter, Map, Mode, Refusal};
 pub use assemble::{assemble, Graph, NotAssembled};
-pub use cutter::{cut, Cutter, Map, Refusal};
+pub use cutter::{cut, cut_in, Cutter, Map, Mode, Refusal};
 pub use list::{
     Contour, CutList, Direction, Face, Node, NodeId, Pixel, Point, RegionId, SegRef, Segment,
     SegmentId,
 };
-pub use sheet::{cut_on_sheet, Move, Moves, OnSheet, Sheet};
 pub use merge::{merge_similar, merge_words, Merged, Unmerged, REGION_WORDS};
+pub use sheet::{cut_on_sheet, Move, Moves, OnSheet, Sheet};
