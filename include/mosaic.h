@@ -32,15 +32,14 @@
  *   2      the label count is not width x height
  *   3      the work store is shorter than 8 x (width+1) x (height+1) words
  *   4 5 6  the node, segment, point store holds fewer records than the map needs     (graph and whole)
- *   7 8 9  the reference, contour, face store likewise                               (whole)
- *   16     a side of the sheet is not above 0 (or is no number), or is above 3000     (sheet_whole)
+ *   7 8 9  the reference, contour, face store likewise                               (whole and assemble)
+ *   11     the layers, their masks or the labels are not whole; asked after 1        (layers)
  *   12     before a merge, a label is neither MOSAIC_OUTSIDE nor painted             (merge, after 2 and before 3)
+ *   13     the listing store is shorter than the listing                             (listing)
+ *   15     the graph handed in does not describe the map; asked after 3, before 7    (assemble)
+ *   16     a side of the sheet is not above 0 (or is no number), or is above 3000    (sheet_whole, after 9)
  *   17     before a merge, the colours have another length than 3 x paints bytes,
  *          or the region store is shorter than 12 x paints words                     (merge, after 3)
- *   11     the layers, their masks or the labels are not whole; asked after 1        (mosaic_layers)
- *   7 8 9  the reference, contour, face store likewise                               (whole and assemble)
- *   15     the graph handed in does not describe the map; asked after 3, before 7    (assemble)
- *   13     the listing store is shorter than the listing                             (listing)
  *
  *                        after 1, 2, 3     after 4 to 9, and 16      after 0
  *   counts               all 0             the map's true counts     the map's true counts
