@@ -7,13 +7,13 @@ use Rattle.rules.specs.Lists.{flat}
 use Rattle.rules.specs.Picture.{Picture, OUTSIDE, E, Dart, dart}
 use Rattle.rules.specs.Graph.{segments}
 use Rattle.rules.specs.Describes.{Describes}
-use Rattle.rules.specs.Face.{labelOf, firsts, contours, faces}
+use Rattle.rules.specs.Face.{labelOf, firsts, sides, contours, faces}
 use Rattle.rules.specs.Records.{contoursOf}
 use Rattle.rules.specs.Calls.{Map, pictureOf, cuts, cutList}
 use Rattle.rules.proofs.Lattice.Frame.{Framed, picture-framed}
 use Rattle.rules.proofs.Tracing.Partition.{describes}
 use Rattle.rules.proofs.Contours.Painted.{painted}
-use Rattle.rules.proofs.Contours.Sides.{sides, side-in}
+use Rattle.rules.proofs.Contours.Sides.{side-in}
 use Rattle.rules.proofs.Contours.Loops.{IsPainted}
 use Rattle.rules.proofs.Contours.Counts.{contour-loops, loops-count, loops-total}
 use Rattle.rules.proofs.Faces.Counts.{faces-count, contours-count, references-count}

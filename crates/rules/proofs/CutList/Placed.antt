@@ -8,13 +8,12 @@ use native.Mathlib.Nat.{div-add-mod', mul-le-mul-right, suc-mul}
 use native.Mathlib.Decide.{decLt}
 use lib.ListN.{length, getD}
 use Rattle.rules.specs.Picture.{Picture, OUTSIDE, Dart}
-use Rattle.rules.specs.Face.{labelOf, Face, faces, beside}
+use Rattle.rules.specs.Face.{labelOf, sides, Face, faces, beside}
 use Rattle.rules.specs.Records.{faceWords}
 use Rattle.rules.specs.Calls.{cuts}
 use Rattle.rules.specs.Describes.{Describes}
 use Rattle.rules.proofs.Ground.Lists.{in-at}
 use Rattle.rules.proofs.Lattice.Frame.{Framed}
-use Rattle.rules.proofs.Contours.Sides.{sides}
 use Rattle.rules.proofs.Islands.Pixels.{column-in, row-in}
 use Rattle.rules.proofs.Islands.Joined.{Joined}
 use Rattle.rules.proofs.Islands.Firsts.{firsts-in, firsts-least}
