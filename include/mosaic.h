@@ -48,12 +48,12 @@
  *   point      2   x, y
  *   reference  1   2 x segment, plus 1 when it is walked from its last point to its first
  *   contour    2   first reference, reference count
- *   face       3   region, first contour, contour count
+ *   face       5   region, first contour, contour count, x, y of its first pixel
  *
  * A node is a corner where three or four cuts meet. A segment runs from node to node, or is a ring: start and end are then
  * MOSAIC_NONE, its first and last point are equal and its last direction is 0. A face is one piece: pixels of one painted label that
- * hang together, also across a corner. A contour has its region on the left; y grows downwards. References lie contour after
- * contour, contours face after face.
+ * hang together, also across a corner; its first pixel is the first of them row by row, and names the piece where face numbers move.
+ * A contour has its region on the left; y grows downwards. References lie contour after contour, contours face after face.
  *
  * A map of w x h pixels has at most k = 2wh + w + h cracks (unit cuts), and so no more than k segments, 2k points and 2k references;
  * no more than (w+1)(h+1) nodes and as many contours; and no more than wh faces. Where the stores lent to mosaic_graph or mosaic_whole
@@ -128,6 +128,7 @@ typedef struct mosaic_contour {
 typedef struct mosaic_face {
     uint32_t region;
     uint32_t first_contour, contour_count;
+    uint32_t x, y; /* the first pixel */
 } mosaic_face;
 
 #define MOSAIC_WORDS(record) (sizeof(record) / sizeof(uint32_t))

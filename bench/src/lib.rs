@@ -107,7 +107,7 @@ pub struct Lent {
 }
 
 /// Words of a record in each of the six stores.
-const RECORD: [usize; 6] = [6, 8, 2, 1, 2, 3];
+const RECORD: [usize; 6] = [6, 8, 2, 1, 2, 5];
 
 impl Lent {
     /// A work store alone.
@@ -153,6 +153,7 @@ impl Lent {
         // SAFETY: a store of its own and the borrowed labels.
         unsafe {
             ffi::mosaic_size(
+                0, // plain
                 map.side,
                 map.side,
                 map.paints,
@@ -173,6 +174,7 @@ impl Lent {
         // SAFETY: stores of their own and the borrowed labels.
         unsafe {
             ffi::mosaic_graph(
+                0, // plain
                 map.side,
                 map.side,
                 map.paints,
@@ -199,6 +201,7 @@ impl Lent {
         // SAFETY: stores of their own and the borrowed labels.
         unsafe {
             ffi::mosaic_whole(
+                0, // plain
                 map.side,
                 map.side,
                 map.paints,

@@ -23,13 +23,13 @@ static void make(uint32_t *words, uint32_t *row)
     mosaic_answer *answer = (mosaic_answer *)(row + ANSWER);
     switch (row[0]) {
     case 0:
-        mosaic_size(w, h, paints, SLICE(0), SLICE(1), answer);
+        mosaic_size(MOSAIC_PLAIN, w, h, paints, SLICE(0), SLICE(1), answer);
         break;
     case 1:
-        mosaic_graph(w, h, paints, SLICE(0), SLICE(1), SLICE(2), SLICE(3), SLICE(4), answer);
+        mosaic_graph(MOSAIC_PLAIN, w, h, paints, SLICE(0), SLICE(1), SLICE(2), SLICE(3), SLICE(4), answer);
         break;
     default:
-        mosaic_whole(w, h, paints, SLICE(0), SLICE(1), SLICE(2), SLICE(3), SLICE(4), SLICE(5), SLICE(6), SLICE(7), answer);
+        mosaic_whole(MOSAIC_PLAIN, w, h, paints, SLICE(0), SLICE(1), SLICE(2), SLICE(3), SLICE(4), SLICE(5), SLICE(6), SLICE(7), answer);
     }
 }
 
@@ -45,6 +45,8 @@ static void spoil(uint32_t *words, uint32_t *row)
         work[row[7] - 1] ^= 1; /* a work word left, or one beyond its part touched */
     if (FAULT == 3 && done && row[0] == 2 && answer[6])
         faces[2]++; /* a wrong word in a record */
+    if (FAULT == 8 && done && row[0] == 2 && answer[6])
+        faces[3]++; /* another first pixel */
     if (FAULT == 4 && done)
         words[row[8] + row[9]]++; /* a word past a store */
     if (FAULT == 5 && done)

@@ -12,10 +12,10 @@ _Static_assert(MOSAIC_WORDS(mosaic_node) == 6, "a node is six words");
 _Static_assert(MOSAIC_WORDS(mosaic_segment) == 8, "a segment is eight words");
 _Static_assert(MOSAIC_WORDS(mosaic_point) == 2, "a point is two words");
 _Static_assert(MOSAIC_WORDS(mosaic_contour) == 2, "a contour is two words");
-_Static_assert(MOSAIC_WORDS(mosaic_face) == 3, "a face is three words");
+_Static_assert(MOSAIC_WORDS(mosaic_face) == 5, "a face is five words");
 
 enum { WORK, NODES, SEGMENTS, POINTS, REFERENCES, CONTOURS, FACES, STORES };
-static const size_t record_words[STORES] = {1, 6, 8, 2, 1, 2, 3};
+static const size_t record_words[STORES] = {1, 6, 8, 2, 1, 2, 5};
 
 #define UNTOUCHED UINT32_C(0xA5A5A5A5)
 #define GUARD 4 /* words kept behind each store */

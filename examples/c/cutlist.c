@@ -68,7 +68,8 @@ static void print_segments(const mosaic_segment *segments, uint32_t count, const
 
 static void print_faces(const mosaic_face *faces, uint32_t count, const mosaic_contour *contours, const uint32_t *references) {
     for (uint32_t f = 0; f < count; f++) {
-        printf("face %" PRIu32 " %" PRIu32 " %" PRIu32 "\n", f, faces[f].region, faces[f].contour_count);
+        printf("face %" PRIu32 " %" PRIu32 " %" PRIu32 " %" PRIu32 " %" PRIu32 "\n", f, faces[f].region, faces[f].contour_count,
+               faces[f].x, faces[f].y);
         for (uint32_t c = 0; c < faces[f].contour_count; c++) {
             const mosaic_contour *contour = &contours[faces[f].first_contour + c];
             printf("cont %c", c == 0 ? 'O' : 'H');

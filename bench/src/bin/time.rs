@@ -111,7 +111,7 @@ fn both(map: &Map, rounds: usize) {
 /// Stops where the two do not make the same cut list, word for word.
 fn agree(map: &Map, rust: &LabelMap, lent: &mut Lent) {
     let graph = extract(rust);
-    let list = cut_list_of(&graph, &assemble(&graph, rust));
+    let list = cut_list_of(rust, &graph, &assemble(&graph, rust));
     lent.whole(map);
     assert!(list.stores() == lent.stores(), "{} {}", map.kind, map.side);
 }

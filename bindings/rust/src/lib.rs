@@ -26,5 +26,6 @@ mod list;
 
 pub use cutter::{cut, Cutter, Map, Refusal};
 pub use list::{
-    Contour, CutList, Direction, Face, Node, NodeId, Point, RegionId, SegRef, Segment, SegmentId,
+    Contour, CutList, Direction, Face, Node, NodeId, Pixel, Point, RegionId, SegRef, Segment,
+    SegmentId,
 };

@@ -45,6 +45,13 @@ pub struct Point {
     pub y: u32,
 }
 
+/// A pixel by its column and row; y grows downwards.
+#[derive(Clone, Copy, Debug, PartialEq, Eq, PartialOrd, Ord, Hash)]
+pub struct Pixel {
+    pub x: u32,
+    pub y: u32,
+}
+
 /// The heading of a unit step.
 #[derive(Clone, Copy, Debug, PartialEq, Eq, Hash)]
 pub enum Direction {
@@ -98,7 +105,7 @@ pub(crate) struct Stores {
     pub points: Vec<[u32; 2]>,
     pub references: Vec<[u32; 1]>,
     pub contours: Vec<[u32; 2]>,
-    pub faces: Vec<[u32; 3]>,
+    pub faces: Vec<[u32; 5]>,
 }
 
 impl Stores {
@@ -265,7 +272,7 @@ fn node(word: u32) -> Option<NodeId> {
 #[derive(Clone, Copy)]
 pub struct Face<'a> {
     list: &'a CutList,
-    record: [u32; 3],
+    record: [u32; 5],
 }
 
 impl<'a> Face<'a> {
@@ -274,11 +281,17 @@ impl<'a> Face<'a> {
         RegionId(self.record[0])
     }
 
+    /// The first of its pixels, row by row: a name for the piece that stays while face numbers move.
+    pub fn first_pixel(&self) -> Pixel {
+        let [.., x, y] = self.record;
+        Pixel { x, y }
+    }
+
     /// Its outline and the rims of its holes, each with the face on the left.
     pub fn contours(
         &self,
     ) -> impl ExactSizeIterator<Item = Contour<'a>> + DoubleEndedIterator + 'a {
-        let [_, first, count] = self.record;
+        let [_, first, count, ..] = self.record;
         let list = self.list;
         let contours = part(&list.stores.contours, first, count);
         contours.iter().map(move |&record| Contour { list, record })

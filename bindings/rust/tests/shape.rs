@@ -1,6 +1,6 @@
 //! What holds of the cut list of every map, on maps that no one worked by hand.
 
-use mosaic::{CutList, Cutter, Map, NodeId, Point, RegionId};
+use mosaic::{CutList, Cutter, Map, NodeId, Pixel, Point, RegionId};
 
 /// A small generator, so that a failure can be had again.
 struct Dice(u64);
@@ -72,7 +72,13 @@ fn holds(map: &Map<'_>, list: &CutList) {
 
     let mut listed = [0, 0];
     let mut painted = 0;
+    let mut last = None;
     for face in list.faces() {
+        let Pixel { x, y } = face.first_pixel();
+        assert_eq!(map.labels[(y * map.width + x) as usize], face.region().0);
+        let place = Some((face.region(), y, x));
+        assert!(last < place);
+        last = place;
         let mut pixels = 0;
         for contour in face.contours() {
             listed[0] += 1;

@@ -1,6 +1,8 @@
 //! The maps of document 01, worked by hand there.
 
-use mosaic::{cut, CutList, Direction, Map, NodeId, Point, Refusal, RegionId, SegRef, SegmentId};
+use mosaic::{
+    cut, CutList, Direction, Map, NodeId, Pixel, Point, Refusal, RegionId, SegRef, SegmentId,
+};
 
 const OUTSIDE: u32 = RegionId::OUTSIDE.0;
 
@@ -149,6 +151,8 @@ fn two_patches_of_one_label() {
     assert_eq!(stripes.counts(), [4, 6, 16, 8, 3, 3, 10]);
     let regions: Vec<_> = stripes.faces().map(|f| f.region().0).collect();
     assert_eq!(regions, [0, 0, 1]);
+    let pixels: Vec<_> = stripes.faces().map(|f| f.first_pixel()).collect();
+    assert_eq!(pixels, [0, 2, 1].map(|x| Pixel { x, y: 0 }));
 }
 
 #[test]
@@ -178,7 +182,9 @@ fn a_hole() {
 fn islands_join_across_corners() {
     let o = OUTSIDE;
     let map = [0, o, o, o, o, 0, 0, 0, o, 0, 1, 0, o, 0, 0, 0];
-    assert_eq!(list(4, 4, 2, &map).faces().len(), 2);
+    let list = list(4, 4, 2, &map);
+    let pixels: Vec<_> = list.faces().map(|f| f.first_pixel()).collect();
+    assert_eq!(pixels, [Pixel { x: 0, y: 0 }, Pixel { x: 2, y: 2 }]);
 }
 
 #[test]

@@ -20,7 +20,7 @@ use Rattle.rules.proofs.Ground.Pigeonhole.{rearranged-length}
 use Rattle.rules.proofs.Lattice.Frame.{Framed}
 use Rattle.rules.proofs.Tracing.Counts.{segment-count, crack-count}
 use Rattle.rules.proofs.Contours.Painted.{Painted, painted, reference-count}
-use Rattle.rules.proofs.Islands.Pixels.{labelOf-is}
+use Rattle.rules.proofs.Islands.Pixels.{width-pos, labelOf-is}
 use Rattle.rules.proofs.Waste.{seen-inside}
 use Rattle.rules.proofs.Faces.FirstPixels.{First, firstPixels, first-in, in-firsts, firsts-all}
 use Rattle.rules.proofs.Faces.Faced.{faced}
@@ -263,12 +263,13 @@ module _ {s : Size} {ls nodes segs points : List ℕ} {n : ℕ} {work : List ℕ
                   references = omega (arith, length-rearranged (contoursOf (faces P ss (s .paints))) cs r, reference-count ok, g .drawn .few);
                 }
 
-            pub ordered : Ordered ls 0 (4 * C) (6 * C) m work₅ (faces P ss (s .paints))
+            pub ordered : Ordered (s .width) ls 0 (4 * C) (6 * C) m work₅ (faces P ss (s .paints))
             unfolding faces face
             ordered = record {
               firsts = listed₅ ∙ sym (map-map (λ f. f .first) (face P ss cs) (firstPixels P (s .paints)) ∙ map-id (firstPixels P (s .paints)));
               gathered = λ h i. let q = of-map (face P ss cs) (firstPixels P (s .paints)) i in subst (Gathered ls 0 (4 * C) work₅) (q .2) (gathered (q .0) (q .1));
               fits = fits;
               low = omega (arith, islands-few, pixels-in, plane-low);
+              wide = λ h. width-pos (s .width) (s .height) 0 (omega (arith, islands-few));
               begins = record { in-trail = omega arith; in-heads = omega (arith, g .planes, used₅ .long); in-list = omega (arith, g .planes, used₅ .long) };
             }

@@ -1,6 +1,6 @@
 -- Faces written one after the other, each with its contours.
-use Prim.Native.Nat.{ℕ, suc, _+_, _*_, _-_, _≤_, _<_}
-use mathlib.Core.Path.{_≡_, refl, sym, ap, ap₂, subst, _∙_}
+use Prim.Native.Nat.{ℕ, suc, _+_, _*_, _-_, _/_, _%_, _≤_, _<_}
+use mathlib.Core.Path.{_≡_, refl, sym, ap, subst, _∙_}
 use mathlib.Core.List.{List, [], _∷_, _++_, map, map-append, append-nil}
 use native.Mathlib.Omega.{arith}
 use lib.ListN.{length, getD, take, drop, length-append, length-map}
@@ -9,6 +9,7 @@ use Rattle.rules.specs.Lists.{flat}
 use Rattle.rules.specs.Face.{Face}
 use Rattle.rules.specs.Records.{contoursOf, contourWords, faceWords, NONE}
 use Rattle.rules.proofs.Ground.Lists.{flat-append, in-at, at-map}
+use Rattle.rules.proofs.CutList.Lengths.{length-faces}
 use Rattle.store.proofs.Writes.{sets-append}
 use Rattle.store.proofs.Parts.{length-part, part-at}
 use Rattle.assemble.specs.declared.Done.{Done}
@@ -22,7 +23,7 @@ contours-of-one : (f : Face) → contoursOf (f ∷ []) ≡ f .contours
 unfolding contoursOf flat
 contours-of-one f = append-nil (f .contours)
 
-module _ {ls : List ℕ} {trail heads list : ℕ} {work : List ℕ} {f : ℕ} {done : Done} (u : FaceDue ls trail heads list work f done) {p first : ℕ} (e : p ≡ getD work (list + f) 0) (g : first ≡ getD work (heads + p) 0) where
+module _ {width : ℕ} {ls : List ℕ} {trail heads list : ℕ} {work : List ℕ} {f : ℕ} {done : Done} (u : FaceDue width ls trail heads list work f done) {p first : ℕ} (e : p ≡ getD work (list + f) 0) (g : first ≡ getD work (heads + p) 0) where
   its-string : (face : Face) → getD work (list + f) 0 ≡ face .first → Gathered ls trail heads work face → Strung trail work first (face .contours)
   its-string face q h = subst (λ r. Strung trail work r (face .contours)) (sym (g ∙ ap (λ p. getD work (heads + p) 0) (e ∙ q))) (h .strung)
 
@@ -42,15 +43,16 @@ module _ {ls : List ℕ} {trail heads list : ℕ} {work : List ℕ} {f : ℕ} {d
     pub stays-low : done′ .contours ≤ NONE
     stays-low = omega (arith, count-of (u .face) (u .first) (u .gathered), u .fits .contours)
 
-    pub face-written : {region n : ℕ} {faces faces′ : List ℕ} → region ≡ getD ls p 0 → n ≡ done′ .contours - done .contours → faces′ ≡ sets faces (3 * f) (region ∷ done .contours ∷ n ∷ [])
-        → WritesFace ls trail heads list work f done refs cons faces done′ refs′ cons′ faces′
+    pub face-written : {region n x y : ℕ} {faces faces′ : List ℕ} → region ≡ getD ls p 0 → n ≡ done′ .contours - done .contours → x ≡ p % width → y ≡ p / width
+        → faces′ ≡ sets faces (5 * f) (region ∷ done .contours ∷ n ∷ x ∷ y ∷ [])
+        → WritesFace width ls trail heads list work f done refs cons faces done′ refs′ cons′ faces′
     unfolding faceWords
-    face-written {region} {n} {faces} r k q face a h =
+    face-written {region} {n} {x} {y} {faces} r k i j q face a h =
         let own : region ≡ face .region = r ∙ ap (λ p. getD ls p 0) (e ∙ a) ∙ sym (h .region) in
         let count : n ≡ length (face .contours) = omega (arith, count-of face a h) in
         record {
           wrote = rw (contours-of-one face) (wrote-of face a h);
-          face-words = q ∙ ap₂ (λ r n. sets faces (3 * f) (r ∷ done .contours ∷ n ∷ [])) own count;
+          face-words = q ∙ rw (own, count, i ∙ ap (λ p. p % width) (e ∙ a), j ∙ ap (λ p. p / width) (e ∙ a));
         }
 
 -- ONE AFTER THE OTHER
@@ -59,29 +61,24 @@ contours-append : (fs gs : List Face) → contoursOf (fs ++ gs) ≡ contoursOf f
 unfolding contoursOf
 contours-append fs gs = ap flat (map-append (λ f. f .contours) fs gs) ∙ flat-append (map (λ f. f .contours) fs) (map (λ f. f .contours) gs)
 
-face-words-append : (i : ℕ) (fs gs : List Face) → faceWords i (fs ++ gs) ≡ faceWords i fs ++ faceWords (i + length (contoursOf fs)) gs
+face-words-append : (width i : ℕ) (fs gs : List Face) → faceWords width i (fs ++ gs) ≡ faceWords width i fs ++ faceWords width (i + length (contoursOf fs)) gs
 unfolding faceWords contoursOf flat
-face-words-append i [] gs = let z : i + 0 ≡ i = omega arith in rw z
-face-words-append i (f ∷ fs) gs =
+face-words-append width i [] gs = let z : i + 0 ≡ i = omega arith in rw z
+face-words-append width i (f ∷ fs) gs =
     let z : i + length (f .contours) + length (contoursOf fs) ≡ i + length (f .contours ++ contoursOf fs) = omega (arith, length-append (f .contours) (contoursOf fs)) in
-    ap (λ (l : List ℕ). f .region ∷ i ∷ length (f .contours) ∷ l)
-    (face-words-append (i + length (f .contours)) fs gs ∙ ap (λ j. faceWords (i + length (f .contours)) fs ++ faceWords j gs) z)
+    ap (λ (l : List ℕ). f .region ∷ i ∷ length (f .contours) ∷ (f .first % width) ∷ (f .first / width) ∷ l)
+    (face-words-append width (i + length (f .contours)) fs gs ∙ ap (λ j. faceWords width (i + length (f .contours)) fs ++ faceWords width j gs) z)
 
-face-words-length : (i : ℕ) (fs : List Face) → length (faceWords i fs) ≡ 3 * length fs
-unfolding faceWords
-face-words-length i [] = refl
-face-words-length i (f ∷ fs) = omega (arith, face-words-length (i + length (f .contours)) fs)
-
-faces-then : {i j : ℕ} {fs gs : List Face} {done done′ done″ : Done} {refs cons faces refs′ cons′ faces′ refs″ cons″ faces″ : List ℕ} → j ≡ i + length fs
-    → WroteFaces i fs done refs cons faces done′ refs′ cons′ faces′ → WroteFaces j gs done′ refs′ cons′ faces′ done″ refs″ cons″ faces″
-    → WroteFaces i (fs ++ gs) done refs cons faces done″ refs″ cons″ faces″
-faces-then {i} {j} {fs} {gs} {done} {done′} {done″} {refs} {cons} {faces} {refs′} {cons′} {faces′} e w v =
+faces-then : {width i j : ℕ} {fs gs : List Face} {done done′ done″ : Done} {refs cons faces refs′ cons′ faces′ refs″ cons″ faces″ : List ℕ} → j ≡ i + length fs
+    → WroteFaces width i fs done refs cons faces done′ refs′ cons′ faces′ → WroteFaces width j gs done′ refs′ cons′ faces′ done″ refs″ cons″ faces″
+    → WroteFaces width i (fs ++ gs) done refs cons faces done″ refs″ cons″ faces″
+faces-then {width} {i} {j} {fs} {gs} {done} {done′} {done″} {refs} {cons} {faces} {refs′} {cons′} {faces′} e w v =
     let c : done′ .contours ≡ done .contours + length (contoursOf fs) = ap (λ (d : Done). d .contours) (w .wrote .counts) in
-    let k : 3 * j ≡ 3 * i + length (faceWords (done .contours) fs) = omega (arith, face-words-length (done .contours) fs) in
+    let k : 5 * j ≡ 5 * i + length (faceWords width (done .contours) fs) = omega (arith, length-faces width (done .contours) fs) in
     record {
       wrote = rw (contours-append fs gs) (wrote-then (w .wrote) (v .wrote));
-      face-words = v .face-words ∙ rw (w .face-words, k, c) (sym (ap (sets faces (3 * i)) (face-words-append (done .contours) fs gs)
-          ∙ sets-append faces (3 * i) (faceWords (done .contours) fs) (faceWords (done .contours + length (contoursOf fs)) gs)));
+      face-words = v .face-words ∙ rw (w .face-words, k, c) (sym (ap (sets faces (5 * i)) (face-words-append width (done .contours) fs gs)
+          ∙ sets-append faces (5 * i) (faceWords width (done .contours) fs) (faceWords width (done .contours + length (contoursOf fs)) gs)));
     }
 
 -- ALL
@@ -89,11 +86,11 @@ faces-then {i} {j} {fs} {gs} {done} {done′} {done″} {refs} {cons} {faces} {r
 noFace : Face
 noFace = record { region = 0; first = 0; contours = [] }
 
-pub none-written : (refs cons faces : List ℕ) → WroteFaces 0 [] nothing refs cons faces nothing refs cons faces
+pub none-written : (width : ℕ) (refs cons faces : List ℕ) → WroteFaces width 0 [] nothing refs cons faces nothing refs cons faces
 unfolding contoursOf faceWords flat
-none-written refs cons faces = record { wrote = wrote-none nothing refs cons; face-words = refl }
+none-written width refs cons faces = record { wrote = wrote-none nothing refs cons; face-words = refl }
 
-module _ {ls : List ℕ} {trail heads list m : ℕ} {work : List ℕ} {fs : List Face} (o : Ordered ls trail heads list m work fs) where
+module _ {width : ℕ} {ls : List ℕ} {trail heads list m : ℕ} {work : List ℕ} {fs : List Face} (o : Ordered width ls trail heads list m work fs) where
   all-count : m ≡ length fs
   all-count = sym (length-part work list m) ∙ ap length (o .firsts) ∙ length-map fs (λ f. f .first)
 
@@ -105,8 +102,8 @@ module _ {ls : List ℕ} {trail heads list m : ℕ} {work : List ℕ} {fs : List
     here-gathered : Gathered ls trail heads work (getD fs f noFace)
     here-gathered = o .gathered (getD fs f noFace) (in-at fs f noFace (omega (arith, all-count)))
 
-    module _ {refs cons faces refs′ cons′ faces′ : List ℕ} {done : Done} (w : WroteFaces 0 (take f fs) nothing refs cons faces done refs′ cons′ faces′) where
-      pub due : FaceDue ls trail heads list work f done
+    module _ {refs cons faces refs′ cons′ faces′ : List ℕ} {done : Done} (w : WroteFaces width 0 (take f fs) nothing refs cons faces done refs′ cons′ faces′) where
+      pub due : FaceDue width ls trail heads list work f done
       unfolding contoursOf flat
       due = record {
         face = getD fs f noFace;
@@ -119,19 +116,20 @@ module _ {ls : List ℕ} {trail heads list m : ℕ} {work : List ℕ} {fs : List
             fits-front (getD fs f noFace .contours) rest
             (fits-rest (contoursOf (take f fs)) (getD fs f noFace .contours ++ rest) (subst (λ (cs : List (List ℕ)). Fits cs nothing) all (o .fits)) (w .wrote));
         low = omega (arith, o .low);
+        wide = o .wide (omega arith);
         begins = o .begins;
       }
 
-      pub one-more : {done′ : Done} {refs″ cons″ faces″ : List ℕ} → WritesFace ls trail heads list work f done refs′ cons′ faces′ done′ refs″ cons″ faces″
-          → WroteFaces 0 (take (suc f) fs) nothing refs cons faces done′ refs″ cons″ faces″
+      pub one-more : {done′ : Done} {refs″ cons″ faces″ : List ℕ} → WritesFace width ls trail heads list work f done refs′ cons′ faces′ done′ refs″ cons″ faces″
+          → WroteFaces width 0 (take (suc f) fs) nothing refs cons faces done′ refs″ cons″ faces″
       one-more v =
           rw (take-suc fs f noFace (omega (arith, all-count)))
           (faces-then (let z = length-take-le f fs (omega (arith, all-count)) in omega arith) w (v (getD fs f noFace) here-first here-gathered))
 
-  pub all-written : {f : ℕ} {refs cons faces refs′ cons′ faces′ : List ℕ} {done : Done} → m ≤ f → WroteFaces 0 (take f fs) nothing refs cons faces done refs′ cons′ faces′
-      → AllWritten fs refs cons faces done refs′ cons′ faces′
+  pub all-written : {f : ℕ} {refs cons faces refs′ cons′ faces′ : List ℕ} {done : Done} → m ≤ f → WroteFaces width 0 (take f fs) nothing refs cons faces done refs′ cons′ faces′
+      → AllWritten width fs refs cons faces done refs′ cons′ faces′
   all-written {f} {refs} {cons} {faces} {refs′} {cons′} {faces′} {done} h w =
-      let v = subst (λ (gs : List Face). WroteFaces 0 gs nothing refs cons faces done refs′ cons′ faces′) (take-all f fs (omega (arith, all-count))) w in
+      let v = subst (λ (gs : List Face). WroteFaces width 0 gs nothing refs cons faces done refs′ cons′ faces′) (take-all f fs (omega (arith, all-count))) w in
       record {
         reference-words = v .wrote .references;
         contour-words = v .wrote .contours;
@@ -141,7 +139,7 @@ module _ {ls : List ℕ} {trail heads list m : ℕ} {work : List ℕ} {fs : List
       }
 
 -- the stores are as long as before
-module _ {f : ℕ} {fs : List Face} {done done′ : Done} {refs cons faces refs′ cons′ faces′ : List ℕ} (w : WroteFaces f fs done refs cons faces done′ refs′ cons′ faces′) where
+module _ {width f : ℕ} {fs : List Face} {done done′ : Done} {refs cons faces refs′ cons′ faces′ : List ℕ} (w : WroteFaces width f fs done refs cons faces done′ refs′ cons′ faces′) where
   pub refs-length : length refs′ ≡ length refs
   refs-length = ap length (w .wrote .references) ∙ length-sets refs (done .references) (flat (contoursOf fs))
 
@@ -149,4 +147,4 @@ module _ {f : ℕ} {fs : List Face} {done done′ : Done} {refs cons faces refs�
   cons-length = ap length (w .wrote .contours) ∙ length-sets cons (2 * done .contours) (contourWords (done .references) (contoursOf fs))
 
   pub faces-length : length faces′ ≡ length faces
-  faces-length = ap length (w .face-words) ∙ length-sets faces (3 * f) (faceWords (done .contours) fs)
+  faces-length = ap length (w .face-words) ∙ length-sets faces (5 * f) (faceWords width (done .contours) fs)

@@ -82,11 +82,3 @@ module _ (cs ds : List (List ℕ)) {done : Done} (f : Fits (cs ++ ds) done) wher
   pub fits-rest : {done′ : Done} {refs cons refs′ cons′ : List ℕ} → Wrote cs done refs cons done′ refs′ cons′ → Fits ds done′
   fits-rest w =
       rw (w .counts) (record { contours = omega (arith, f .contours, both); references = omega (arith, f .references, flats) })
-
--- FACES
-
-pub three-words : (l m n o : List ℕ) (i a b c : ℕ) → m ≡ set l i a → n ≡ set m (i + 1) b → o ≡ set n (i + 2) c → o ≡ sets l i (a ∷ b ∷ c ∷ [])
-three-words l m n o i a b c e f g =
-    let p : i + 1 ≡ suc i = omega arith in
-    let q : i + 2 ≡ suc (suc i) = omega arith in
-    g ∙ rw (f, e, p, q)

@@ -30,7 +30,7 @@ pub record Stands (s : Size) (ls nodes segs points : List ℕ) (n : ℕ) (work :
 
 -- the records of the faces of ss; of the work words only the planes 0 to 4, 6 and 7 have changed
 pub record Assembled (s : Size) (ls : List ℕ) (ss : List (List Dart)) (work refs cons outs : List ℕ) (done : Done) (work′ refs′ cons′ outs′ : List ℕ) : Type 0 where
-  pub written : AllWritten (faces (pic s ls) ss (s .paints)) refs cons outs done refs′ cons′ outs′
+  pub written : AllWritten (s .width) (faces (pic s ls) ss (s .paints)) refs cons outs done refs′ cons′ outs′
   pub changed : Changed 0 (5 * plane (s .width) (s .height)) (6 * plane (s .width) (s .height)) (2 * plane (s .width) (s .height)) work work′
 
 abbrev pub Assembles : Size → List ℕ → List ℕ → List ℕ → List ℕ → ℕ → List ℕ → List ℕ → List ℕ → List ℕ → Done → List ℕ → List ℕ → List ℕ → List ℕ → Type 0

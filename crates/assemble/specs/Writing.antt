@@ -1,5 +1,5 @@
 -- References, contours and faces written one after the other.
-use Prim.Native.Nat.{ℕ, _+_, _*_, _≤_}
+use Prim.Native.Nat.{ℕ, _+_, _*_, _<_, _≤_}
 use mathlib.Core.Path.{_≡_}
 use mathlib.Core.List.{List, [], _∷_, map, List·Memᴰ as In}
 use lib.ListN.{length, getD}
@@ -65,42 +65,44 @@ pub record Begins (trail heads list : ℕ) (work : List ℕ) : Type 0 where
   pub in-list : list ≤ length work
 
 -- the faces fs, from the number f on
-pub record WroteFaces (f : ℕ) (fs : List Face) (done : Done) (refs cons faces : List ℕ) (done′ : Done) (refs′ cons′ faces′ : List ℕ) : Type 0 where
+pub record WroteFaces (width f : ℕ) (fs : List Face) (done : Done) (refs cons faces : List ℕ) (done′ : Done) (refs′ cons′ faces′ : List ℕ) : Type 0 where
   pub wrote : Wrote (contoursOf fs) done refs cons done′ refs′ cons′
-  pub face-words : faces′ ≡ sets faces (3 * f) (faceWords (done .contours) fs)
+  pub face-words : faces′ ≡ sets faces (5 * f) (faceWords width (done .contours) fs)
 
--- the face number f
-pub record FaceDue (ls : List ℕ) (trail heads list : ℕ) (work : List ℕ) (f : ℕ) (done : Done) : Type 0 where
+-- the face number f, on a map that is wide enough to have one
+pub record FaceDue (width : ℕ) (ls : List ℕ) (trail heads list : ℕ) (work : List ℕ) (f : ℕ) (done : Done) : Type 0 where
   pub face : Face
   pub first : getD work (list + f) 0 ≡ face .first
   pub gathered : Gathered ls trail heads work face
   pub fits : Fits (face .contours) done
   pub low : f ≤ NONE
+  pub wide : 0 < width
   pub begins : Begins trail heads list work
 
-abbrev pub WritesFace : List ℕ → ℕ → ℕ → ℕ → List ℕ → ℕ → Done → List ℕ → List ℕ → List ℕ → Done → List ℕ → List ℕ → List ℕ → Type 0
-WritesFace ls trail heads list work f done refs cons faces done′ refs′ cons′ faces′ =
-    (face : Face) → getD work (list + f) 0 ≡ face .first → Gathered ls trail heads work face → WroteFaces f (face ∷ []) done refs cons faces done′ refs′ cons′ faces′
+abbrev pub WritesFace : ℕ → List ℕ → ℕ → ℕ → ℕ → List ℕ → ℕ → Done → List ℕ → List ℕ → List ℕ → Done → List ℕ → List ℕ → List ℕ → Type 0
+WritesFace width ls trail heads list work f done refs cons faces done′ refs′ cons′ faces′ =
+    (face : Face) → getD work (list + f) 0 ≡ face .first → Gathered ls trail heads work face → WroteFaces width f (face ∷ []) done refs cons faces done′ refs′ cons′ faces′
 
 abbrev pub nothing : Done
 nothing = record { contours = 0; references = 0 }
 
 -- all faces, by their first pixels from `list` on
-pub record Ordered (ls : List ℕ) (trail heads list m : ℕ) (work : List ℕ) (fs : List Face) : Type 0 where
+pub record Ordered (width : ℕ) (ls : List ℕ) (trail heads list m : ℕ) (work : List ℕ) (fs : List Face) : Type 0 where
   pub firsts : part work list m ≡ map (λ f. f .first) fs
   pub gathered : (f : Face) → In f fs → Gathered ls trail heads work f
   pub fits : Fits (contoursOf fs) nothing
   pub low : m ≤ NONE
+  pub wide : 0 < m → 0 < width
   pub begins : Begins trail heads list work
 
-pub record Orderly (ls : List ℕ) (trail heads list m : ℕ) (work : List ℕ) : Type 0 where
+pub record Orderly (width : ℕ) (ls : List ℕ) (trail heads list m : ℕ) (work : List ℕ) : Type 0 where
   pub fs : List Face
-  pub ordered : Ordered ls trail heads list m work fs
+  pub ordered : Ordered width ls trail heads list m work fs
 
 -- the records of all faces, from the front of each store, and how many contours and references they have
-pub record AllWritten (fs : List Face) (refs cons faces : List ℕ) (done : Done) (refs′ cons′ faces′ : List ℕ) : Type 0 where
+pub record AllWritten (width : ℕ) (fs : List Face) (refs cons faces : List ℕ) (done : Done) (refs′ cons′ faces′ : List ℕ) : Type 0 where
   pub reference-words : refs′ ≡ sets refs 0 (flat (contoursOf fs))
   pub contour-words : cons′ ≡ sets cons 0 (contourWords 0 (contoursOf fs))
-  pub face-words : faces′ ≡ sets faces 0 (faceWords 0 fs)
+  pub face-words : faces′ ≡ sets faces 0 (faceWords width 0 fs)
   pub contours : done .contours ≡ length (contoursOf fs)
   pub references : done .references ≡ length (flat (contoursOf fs))

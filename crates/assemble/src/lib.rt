@@ -456,13 +456,12 @@ fn write_contours(
 }
 
 // The record of the face f.
-fn put_face(faces: &mut [u32], f: usize, region: RegionId, first: u32, count: u32)
+fn put_face(faces: &mut [u32], f: usize, region: RegionId, first: u32, count: u32, x: u32, y: u32)
     requires { ⌜ f ≤ 4294967295 ⌝ }
-    ensures { λ _. ⌜ now (faces .exit) ≡ sets (now (faces .entry)) (3 * f) (region .0 ∷ first ∷ count ∷ []) ⌝ }
+    ensures { λ _. ⌜ now (faces .exit) ≡ sets (now (faces .entry)) (5 * f) (region .0 ∷ first ∷ count ∷ x ∷ y ∷ []) ⌝ }
 {
-    store::put(faces, 3 * f, region.0);
-    store::put(faces, 3 * f + 1, first);
-    store::put(faces, 3 * f + 2, count);
+    store::put(faces, 5 * f, region.0);
+    store::put4(faces, 5 * f + 1, first, count, x, y);
 }
 
 // The face f, whose first pixel is in work from list on: its contours, and its record.
@@ -475,19 +474,21 @@ fn write_face(
     references: &mut [u32],
     contours: &mut [u32],
     faces: &mut [u32],
+    width: u32,
     f: usize,
     done: Done,
 ) -> Done
-    requires { ⌜ FaceDue (now labels) trail heads list (now work) f done ⌝ }
-    ensures { λ d. ⌜ WritesFace (now (labels .entry)) trail heads list (now (work .entry)) f done (now (references .entry)) (now (contours .entry)) (now (faces .entry)) d (now (references .exit)) (now (contours .exit)) (now (faces .exit)) ⌝ }
+    requires { ⌜ FaceDue width (now labels) trail heads list (now work) f done ⌝ }
+    ensures { λ d. ⌜ WritesFace width (now (labels .entry)) trail heads list (now (work .entry)) f done (now (references .entry)) (now (contours .entry)) (now (faces .entry)) d (now (references .exit)) (now (contours .exit)) (now (faces .exit)) ⌝ }
 {
-    let p = store::get(work, list + f) as usize;
-    let first = store::get(work, heads + p);
+    let p = store::get(work, list + f);
+    let at = p as usize;
+    let first = store::get(work, heads + at);
     let d = write_contours(work, trail, references, contours, first, done);
     let c = done.contours;
     let n = d.contours - c;
-    let region = RegionId(store::get(labels, p));
-    put_face(faces, f, region, c as u32, n as u32);
+    let region = RegionId(store::get(labels, at));
+    put_face(faces, f, region, c as u32, n as u32, p % width, p / width);
     d
 }
 
@@ -501,10 +502,11 @@ fn write_faces(
     references: &mut [u32],
     contours: &mut [u32],
     faces: &mut [u32],
+    width: u32,
     m: usize,
 ) -> Done
-    requires { ⌜ Orderly (now labels) trail heads list m (now work) ⌝ }
-    ensures { λ d. ⌜ ((fs : List Face) → Ordered (now (labels .entry)) trail heads list m (now (work .entry)) fs → AllWritten fs (now (references .entry)) (now (contours .entry)) (now (faces .entry)) d (now (references .exit)) (now (contours .exit)) (now (faces .exit))) ⌝ }
+    requires { ⌜ Orderly width (now labels) trail heads list m (now work) ⌝ }
+    ensures { λ d. ⌜ ((fs : List Face) → Ordered width (now (labels .entry)) trail heads list m (now (work .entry)) fs → AllWritten width fs (now (references .entry)) (now (contours .entry)) (now (faces .entry)) d (now (references .exit)) (now (contours .exit)) (now (faces .exit))) ⌝ }
 {
     let mut done = Done {
         contours: 0,
@@ -521,6 +523,7 @@ fn write_faces(
             references,
             contours,
             faces,
+            width,
             f,
             done,
         );
@@ -557,5 +560,16 @@ pub fn assemble(
     let m = list_islands(labels, work, s.paints, s.bound, heads, ids, list);
     thread(s, segments, points, work, 0, heads, ids, lasts, count);
     face::order::sort(labels, work, list, lasts, m);
-    write_faces(labels, work, 0, heads, list, references, contours, faces, m)
+    write_faces(
+        labels,
+        work,
+        0,
+        heads,
+        list,
+        references,
+        contours,
+        faces,
+        s.width,
+        m,
+    )
 }

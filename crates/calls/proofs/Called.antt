@@ -51,7 +51,7 @@ left k =
       points = take (2 * k .answer .points) (k .after .points);
       references = take (k .answer .references) (k .after .references);
       contours = take (2 * k .answer .contours) (k .after .contours);
-      faces = take (3 * k .answer .faces) (k .after .faces);
+      faces = take (5 * k .answer .faces) (k .after .faces);
       steps = k .answer .steps;
     }
 
@@ -112,6 +112,6 @@ module _ {m : Map} (k : Called m) where
         points = front (2 * k .answer .points) (l .points) (b .points) (ap (store 3) finished) (omega (arith, ap (λ a. a .points) counts-are, length-points ss (has-step F (describes F)))) i;
         references = front (k .answer .references) (l .references) (b .references) (ap (store 4) finished) (ap (λ a. a .references) counts-are) i;
         contours = front (2 * k .answer .contours) (l .contours) (b .contours) (ap (store 5) finished) (omega (arith, ap (λ a. a .contours) counts-are, length-contours 0 (contoursOf fs))) i;
-        faces = front (3 * k .answer .faces) (l .faces) (b .faces) (ap (store 6) finished) (omega (arith, ap (λ a. a .faces) counts-are, length-faces 0 fs)) i;
+        faces = front (5 * k .answer .faces) (l .faces) (b .faces) (ap (store 6) finished) (omega (arith, ap (λ a. a .faces) counts-are, length-faces (P .w) 0 fs)) i;
         steps = counts-are i .steps;
       }

@@ -68,10 +68,10 @@ module _ (s : Size) (ls : List ℕ) where
       all z =
           let P = pictureOf (mapOf s ls) in
           let found = faces P (segments P) (s .paints) in
-          let a = all-miss 7 (short 1 rs (l .references)) (short 2 cs (l .contours)) (short 3 fs (l .faces)) (omega arith) (f z) in (
+          let a = all-miss 7 (short 1 rs (l .references)) (short 2 cs (l .contours)) (short 5 fs (l .faces)) (omega arith) (f z) in (
             omega (arith, room 1 rs (l .references) (a .0)),
             omega (arith, room 2 cs (l .contours) (a .1), length-contours 0 (contoursOf found)),
-            omega (arith, room 3 fs (l .faces) (a .2), length-faces 0 found),
+            omega (arith, room 5 fs (l .faces) (a .2), length-faces (P .w) 0 found),
           )
 
   -- of all six at once

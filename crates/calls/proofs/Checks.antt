@@ -124,7 +124,7 @@ unfolding graphChecks short counted
 graph-room a l ns ss ps k = rw (ap (λ b. b .nodes) k, ap (λ b. b .segments) k, ap (λ b. b .points) k)
 
 pub face-room : (a : Answer) (l : CutList) (rs cs fs : List ℕ) → answerOf a ≡ counted 0 l
-    → lone 7 (length rs) (a .references) ∷ lone 8 (length cs / 2) (a .contours) ∷ lone 9 (length fs / 3) (a .faces) ∷ [] ≡ faceChecks l rs cs fs
+    → lone 7 (length rs) (a .references) ∷ lone 8 (length cs / 2) (a .contours) ∷ lone 9 (length fs / 5) (a .faces) ∷ [] ≡ faceChecks l rs cs fs
 unfolding faceChecks short counted
 face-room a l rs cs fs k =
     let single : (n : ℕ) → n / 1 ≡ n = λ n. omega arith in

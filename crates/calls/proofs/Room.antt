@@ -29,7 +29,7 @@ blank a =
       points = replicate (2 * a .points) 0;
       references = replicate (a .references) 0;
       contours = replicate (2 * a .contours) 0;
-      faces = replicate (3 * a .faces) 0;
+      faces = replicate (5 * a .faces) 0;
       steps = a .steps;
     }
 
@@ -42,7 +42,7 @@ blank-counted a z =
     let points : a .points ≡ length (blank a .points) / 2 = omega (arith, words (2 * a .points)) in
     let references : a .references ≡ length (blank a .references) = omega (arith, words (a .references)) in
     let contours : a .contours ≡ length (blank a .contours) / 2 = omega (arith, words (2 * a .contours)) in
-    let faces : a .faces ≡ length (blank a .faces) / 3 = omega (arith, words (3 * a .faces)) in
+    let faces : a .faces ≡ length (blank a .faces) / 5 = omega (arith, words (5 * a .faces)) in
     λ i. record {
       number = z i;
       nodes = nodes i;
@@ -90,11 +90,11 @@ module _ {l k : CutList} (f : Fewer l k) (ns ss ps : List ℕ) where
     faces-miss : firstHit (faceChecks k rs cs fs) ≡ 0 → firstHit (faceChecks l rs cs fs) ≡ 0
     unfolding faceChecks counted
     faces-miss e =
-        let a = all-miss 7 (short 1 rs (k .references)) (short 2 cs (k .contours)) (short 3 fs (k .faces)) (omega arith) e in
+        let a = all-miss 7 (short 1 rs (k .references)) (short 2 cs (k .contours)) (short 5 fs (k .faces)) (omega arith) e in
         none-hits 7
         (long-enough 1 rs (l .references) (k .references) (omega (arith, f .references)) (a .0))
         (long-enough 2 cs (l .contours) (k .contours) (f .contours) (a .1))
-        (long-enough 3 fs (l .faces) (k .faces) (f .faces) (a .2))
+        (long-enough 5 fs (l .faces) (k .faces) (f .faces) (a .2))
 
     all-misses : firstHit (graphChecks k ns ss ps ++ faceChecks k rs cs fs) ≡ 0 → firstHit (graphChecks l ns ss ps ++ faceChecks l rs cs fs) ≡ 0
     all-misses e =

@@ -6,6 +6,7 @@ use mathlib.Core.List.{List, [], _++_}
 use native.Mathlib.Omega.{arith}
 use lib.ListN.{length, getD, drop, List·getD-append}
 use Rattle.rules.specs.Lists.{flat}
+use Rattle.rules.specs.Picture.{picture}
 use Rattle.rules.specs.Graph.{nodes, segments}
 use Rattle.rules.specs.Face.{faces}
 use Rattle.rules.specs.Records.{nodeWords, segmentWords, pointWords, contoursOf, contourWords, faceWords}
@@ -147,7 +148,7 @@ module _ {s : Size} {ls : List ℕ} where
   module _ {n : ℕ} {work rs cs fs : List ℕ} where
     pub faces-written : {work′ rs′ cs′ fs′ : List ℕ} {d : Done} → n ≡ 0 → FacesRoomy s ls n rs cs fs
         → Assembled s ls (segments (pic s ls)) work rs cs fs d work′ rs′ cs′ fs′ → FacesWritten s ls n work rs cs fs work′ rs′ cs′ fs′
-    unfolding cutList cuts
+    unfolding picture cutList cuts
     faces-written z r e =
         let l = cutList (mapOf s ls) in
         record {

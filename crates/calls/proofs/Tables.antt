@@ -54,7 +54,7 @@ graphRows l ns ss ps = storeRow 4 6 ns (l .nodes) ∷ storeRow 5 8 ss (l .segmen
 
 -- 7, 8, 9: reference, contour, face store
 abbrev pub faceRows : CutList → List ℕ → List ℕ → List ℕ → List {1} Row
-faceRows l rs cs fs = storeRow 7 1 rs (l .references) ∷ storeRow 8 2 cs (l .contours) ∷ storeRow 9 3 fs (l .faces) ∷ []
+faceRows l rs cs fs = storeRow 7 1 rs (l .references) ∷ storeRow 8 2 cs (l .contours) ∷ storeRow 9 5 fs (l .faces) ∷ []
 
 -- they are the definitions' checks
 pub size-checks : (m : Map) (work : List ℕ) → checks (mapRows m work) ≡ mapChecks m work ++ []

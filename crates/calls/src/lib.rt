@@ -107,7 +107,7 @@ fn check_faces(a: Answer, references: usize, contours: usize, faces: usize) -> u
         short(7, references, a.references),
         or_else(
             short(8, contours / 2, a.contours),
-            short(9, faces / 3, a.faces),
+            short(9, faces / 5, a.faces),
         ),
     )
 }

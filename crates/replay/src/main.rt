@@ -201,7 +201,7 @@ impl Tally {
         let mut points = [OLD; 883];
         let mut references = [OLD; 443];
         let mut contours = [OLD; 243];
-        let mut faces = [OLD; 303];
+        let mut faces = [OLD; 505];
         let a = calls::whole(
             s,
             labels,
@@ -217,7 +217,7 @@ impl Tally {
         let t = t.drawn(data, &nodes, &segments, &points, counts);
         let t = t.written(data, &references, times(1, counts[3]));
         let t = t.written(data, &contours, times(2, counts[4]));
-        t.written(data, &faces, times(3, counts[5]))
+        t.written(data, &faces, times(5, counts[5]))
     }
 
     // With the next map of the data compared.

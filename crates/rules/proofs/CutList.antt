@@ -5,5 +5,6 @@ pub mod Counts
 pub mod Values
 pub mod Parts
 pub mod Agree
+pub mod Placed
 pub mod Words
 pub mod Unshared

@@ -44,7 +44,7 @@ pub record Worked : Type 0 where
   pub outside : counts (map 1 1 1 (OUTSIDE ∷ [])) ≡ none
   pub outside-largest : counts (map 1 1 4294967295 (OUTSIDE ∷ [])) ≡ none
   pub largest : counts (map 1 1 4294967295 (4294967294 ∷ [])) ≡ 0 ∷ 1 ∷ 5 ∷ 1 ∷ 1 ∷ 1 ∷ 4 ∷ []
-  pub largest-face : cutList (map 1 1 4294967295 (4294967294 ∷ [])) .faces ≡ 4294967294 ∷ 0 ∷ 1 ∷ []
+  pub largest-face : cutList (map 1 1 4294967295 (4294967294 ∷ [])) .faces ≡ 4294967294 ∷ 0 ∷ 1 ∷ 0 ∷ 0 ∷ []
   -- two pixels: every word that document 01 prints
   pub pair : cutList (map 2 1 2 (0 ∷ 1 ∷ [])) ≡ record {
     nodes =
@@ -60,13 +60,13 @@ pub record Worked : Type 0 where
         1 ∷ 0 ∷ 0 ∷ 0 ∷ 0 ∷ 1 ∷ 1 ∷ 1 ∷ [];
     references = 3 ∷ 4 ∷ 1 ∷ 2 ∷ [];
     contours = 0 ∷ 2 ∷ 2 ∷ 2 ∷ [];
-    faces = 0 ∷ 0 ∷ 1 ∷ 1 ∷ 1 ∷ 1 ∷ [];
+    faces = 0 ∷ 0 ∷ 1 ∷ 0 ∷ 0 ∷ 1 ∷ 1 ∷ 1 ∷ 1 ∷ 0 ∷ [];
     steps = 7;
   }
   pub pair-counts : counts (map 2 1 2 (0 ∷ 1 ∷ [])) ≡ 2 ∷ 3 ∷ 10 ∷ 4 ∷ 2 ∷ 2 ∷ 7 ∷ []
   -- two patches of one label: faces 0, 0, 1, so one for each patch
   pub patches : counts (map 3 1 2 (0 ∷ 1 ∷ 0 ∷ [])) ≡ 4 ∷ 6 ∷ 16 ∷ 8 ∷ 3 ∷ 3 ∷ 10 ∷ []
-  pub patches-faces : cutList (map 3 1 2 (0 ∷ 1 ∷ 0 ∷ [])) .faces ≡ 0 ∷ 0 ∷ 1 ∷ 0 ∷ 1 ∷ 1 ∷ 1 ∷ 2 ∷ 1 ∷ []
+  pub patches-faces : cutList (map 3 1 2 (0 ∷ 1 ∷ 0 ∷ [])) .faces ≡ 0 ∷ 0 ∷ 1 ∷ 0 ∷ 0 ∷ 0 ∷ 1 ∷ 1 ∷ 2 ∷ 0 ∷ 1 ∷ 2 ∷ 1 ∷ 1 ∷ 0 ∷ []
   -- a checkerboard: two contours of six references
   pub checker : counts (map 2 2 2 (0 ∷ 1 ∷ 1 ∷ 0 ∷ [])) ≡ 5 ∷ 8 ∷ 20 ∷ 12 ∷ 2 ∷ 2 ∷ 12 ∷ []
   pub checker-contours : cutList (map 2 2 2 (0 ∷ 1 ∷ 1 ∷ 0 ∷ [])) .contours ≡ 0 ∷ 6 ∷ 6 ∷ 6 ∷ []
@@ -74,9 +74,9 @@ pub record Worked : Type 0 where
   pub rim : counts (map 3 3 2 (0 ∷ 0 ∷ 0 ∷ 0 ∷ 1 ∷ 0 ∷ 0 ∷ 0 ∷ 0 ∷ [])) ≡ 0 ∷ 2 ∷ 18 ∷ 3 ∷ 3 ∷ 2 ∷ 16 ∷ []
   pub rim-references : cutList (map 3 3 2 (0 ∷ 0 ∷ 0 ∷ 0 ∷ 1 ∷ 0 ∷ 0 ∷ 0 ∷ 0 ∷ [])) .references ≡ 1 ∷ 2 ∷ 3 ∷ []
   pub rim-contours : cutList (map 3 3 2 (0 ∷ 0 ∷ 0 ∷ 0 ∷ 1 ∷ 0 ∷ 0 ∷ 0 ∷ 0 ∷ [])) .contours ≡ 0 ∷ 1 ∷ 1 ∷ 1 ∷ 2 ∷ 1 ∷ []
-  pub rim-faces : cutList (map 3 3 2 (0 ∷ 0 ∷ 0 ∷ 0 ∷ 1 ∷ 0 ∷ 0 ∷ 0 ∷ 0 ∷ [])) .faces ≡ 0 ∷ 0 ∷ 2 ∷ 1 ∷ 2 ∷ 1 ∷ []
+  pub rim-faces : cutList (map 3 3 2 (0 ∷ 0 ∷ 0 ∷ 0 ∷ 1 ∷ 0 ∷ 0 ∷ 0 ∷ 0 ∷ [])) .faces ≡ 0 ∷ 0 ∷ 2 ∷ 0 ∷ 0 ∷ 1 ∷ 2 ∷ 1 ∷ 1 ∷ 1 ∷ []
   -- patches that touch at a corner are one island: two faces, the first with the hole
-  pub corner-touch : cutList cornerTouch .faces ≡ 0 ∷ 0 ∷ 2 ∷ 1 ∷ 2 ∷ 1 ∷ []
+  pub corner-touch : cutList cornerTouch .faces ≡ 0 ∷ 0 ∷ 2 ∷ 0 ∷ 0 ∷ 1 ∷ 2 ∷ 1 ∷ 2 ∷ 2 ∷ []
 
 pub worked : Worked
 unfolding keep flat upto among seen label northwest picture sameDart toX toY turned leftAt left right crack degree node wayOn onward following meets ending walk fuel on visit trace row rows out corners nodes segments pixels labelOf lesser lesser3 least rounds firsts backwards refs steps firstStep lastStep outEntry keeps successor turn region isOpen next round enter discover contours insert sorted islands besideAt islandOf face faces nodeRecord nodeWords nodeAt pointRecords pointWords segmentWords contoursOf contourWords faceWords cuts cutList counted

@@ -60,7 +60,7 @@ cuts P ss fs =
       points = pointWords ss;
       references = flat cs;
       contours = contourWords 0 cs;
-      faces = faceWords 0 fs;
+      faces = faceWords (P .w) 0 fs;
       steps = length (flat ss);
     }
 
@@ -92,7 +92,7 @@ counted n l =
       points = length (l .points) / 2;
       references = length (l .references);
       contours = length (l .contours) / 2;
-      faces = length (l .faces) / 3;
+      faces = length (l .faces) / 5;
       steps = l .steps;
     }
 
@@ -132,7 +132,7 @@ unfoldable pub faceChecks : CutList → List ℕ → List ℕ → List ℕ → L
 faceChecks l rs cs fs =
     record { number = 7; hits = short 1 rs (l .references) } ∷
     record { number = 8; hits = short 2 cs (l .contours) } ∷
-    record { number = 9; hits = short 3 fs (l .faces) } ∷ []
+    record { number = 9; hits = short 5 fs (l .faces) } ∷ []
 
 -- AFTERWARDS
 

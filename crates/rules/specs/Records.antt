@@ -1,5 +1,5 @@
 -- The words of the six stores, and the seven counts (document 01, "Calls and their numbers").
-use Prim.Native.Nat.{ℕ, suc, pred, _+_}
+use Prim.Native.Nat.{ℕ, suc, pred, _+_, _/_, _%_}
 use mathlib.Core.Bool.{true, false, cond, _&&_}
 use mathlib.Core.List.{List, [], _∷_, map}
 use lib.Dec.{eqb}
@@ -48,7 +48,8 @@ segmentWords P i (s ∷ ss) =
     left P a ∷ right P a ∷ code (a .d) ∷ cond (node P (a .x) (a .y)) (code (z .d)) 0 ∷
     segmentWords P (i + suc (length s)) ss
 
--- REFERENCES contour after contour; CONTOURS: first reference, count; FACES: region, first contour, count
+-- REFERENCES contour after contour; CONTOURS: first reference, count; FACES: region, first contour, count, and x and y of the island's
+-- first pixel, on a map that is w wide
 
 unfoldable pub contoursOf : List Face → List (List ℕ)
 contoursOf fs = flat (map (λ f. f .contours) fs)
@@ -57,6 +58,15 @@ unfoldable pub contourWords : ℕ → List (List ℕ) → List ℕ
 contourWords i [] = []
 contourWords i (c ∷ cs) = i ∷ length c ∷ contourWords (i + length c) cs
 
-unfoldable pub faceWords : ℕ → List Face → List ℕ
-faceWords i [] = []
-faceWords i (f ∷ fs) = f .region ∷ i ∷ length (f .contours) ∷ faceWords (i + length (f .contours)) fs
+unfoldable pub faceWords : ℕ → ℕ → List Face → List ℕ
+faceWords w i [] = []
+faceWords w i (f ∷ fs) = f .region ∷ i ∷ length (f .contours) ∷ (f .first % w) ∷ (f .first / w) ∷ faceWords w (i + length (f .contours)) fs
+
+-- of each record the words that the Rust writes too: region, first contour, count
+unfoldable pub unplaced : List ℕ → List ℕ
+unplaced (a ∷ b ∷ c ∷ x ∷ y ∷ more) = a ∷ b ∷ c ∷ unplaced more
+unplaced [] = []
+unplaced (a ∷ []) = []
+unplaced (a ∷ b ∷ []) = []
+unplaced (a ∷ b ∷ c ∷ []) = []
+unplaced (a ∷ b ∷ c ∷ x ∷ []) = []

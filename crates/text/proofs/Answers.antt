@@ -29,25 +29,25 @@ use Rattle.text.proofs.Padding.{zeros-behind, report-same}
 abbrev zeros : ℕ → List ℕ
 zeros n = replicate n 0
 
-room : Room (zeros 2312) (zeros 1734) (zeros 4352) (zeros 2176) (zeros 1088) (zeros 578) (zeros 768)
-room = record { work = long 2312; nodes = long 1734; segments = long 4352; points = long 2176; references = long 1088; contours = long 578; faces = long 768 }
+room : Room (zeros 2312) (zeros 1734) (zeros 4352) (zeros 2176) (zeros 1088) (zeros 578) (zeros 1280)
+room = record { work = long 2312; nodes = long 1734; segments = long 4352; points = long 2176; references = long 1088; contours = long 578; faces = long 1280 }
   where
     long : (n : ℕ) → n ≤ length (zeros n)
     long n = omega (arith, length-replicate {A = ℕ} n 0)
 
 module _ {m : LabelledMap} (s : Small m) (a : Answer) (work ns ss ps rs cs fs : List ℕ)
-    (promise : outcome a (work ∷ ns ∷ ss ∷ ps ∷ rs ∷ cs ∷ fs ∷ []) ≡ whole m (zeros 2312) (zeros 1734) (zeros 4352) (zeros 2176) (zeros 1088) (zeros 578) (zeros 768)) where
+    (promise : outcome a (work ∷ ns ∷ ss ∷ ps ∷ rs ∷ cs ∷ fs ∷ []) ≡ whole m (zeros 2312) (zeros 1734) (zeros 4352) (zeros 2176) (zeros 1088) (zeros 578) (zeros 1280)) where
   pub map-printed : report (m .width) (m .height) (m .paints) (answerOf a) ns ss ps rs cs fs ≡ printed m
   unfolding printed
   map-printed =
-      let number = enough m (zeros 2312) (zeros 1734) (zeros 4352) (zeros 2176) (zeros 1088) (zeros 578) (zeros 768) s room in
-      let settled = every-whole m (zeros 2312) (zeros 1734) (zeros 4352) (zeros 2176) (zeros 1088) (zeros 578) (zeros 768) .settled in
+      let number = enough m (zeros 2312) (zeros 1734) (zeros 4352) (zeros 2176) (zeros 1088) (zeros 578) (zeros 1280) s room in
+      let settled = every-whole m (zeros 2312) (zeros 1734) (zeros 4352) (zeros 2176) (zeros 1088) (zeros 578) (zeros 1280) .settled in
       let done = promise ∙ settled .fine number in
       let l = cutList m in
       let store : ℕ → Outcome → List ℕ = λ i o. getD (o .stores) i [] in
       rw (ap (λ o. o .answer) done, ap (store 1) done, ap (store 2) done, ap (store 3) done, ap (store 4) done, ap (store 5) done, ap (store 6) done)
       (report-same (zeros-behind (l .nodes) (length (l .nodes)) 1734) (zeros-behind (l .segments) (length (l .segments)) 4352) (zeros-behind (l .points) (length (l .points)) 2176)
-      (zeros-behind (l .references) (length (l .references)) 1088) (zeros-behind (l .contours) (length (l .contours)) 578) (zeros-behind (l .faces) (length (l .faces)) 768)
+      (zeros-behind (l .references) (length (l .references)) 1088) (zeros-behind (l .contours) (length (l .contours)) 578) (zeros-behind (l .faces) (length (l .faces)) 1280)
       (m .width) (m .height) (m .paints) (counted 0 l))
 
 -- BY THE PARSE

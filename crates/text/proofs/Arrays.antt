@@ -21,7 +21,7 @@ read-enough text =
       | no h ↦ let cut = length-take-le 4097 text (omega arith) in ap (λ (o : Outcome). answered (o .answer) (o .labels)) (long (take 4097 text) (omega arith) ∙ sym (long text (omega arith)))
     ]
 
-pub all-printed : (text out out′ : List ℕ) (n : ℕ) → 53160 ≤ length out → Printed out 0 (textmap text) out′ n → (n ≡ length (textmap text)) × (take n out′ ≡ textmap text)
+pub all-printed : (text out out′ : List ℕ) (n : ℕ) → 54696 ≤ length out → Printed out 0 (textmap text) out′ n → (n ≡ length (textmap text)) × (take n out′ ≡ textmap text)
 all-printed text out out′ n room p =
     let short = textmap-short text in
     let count : n ≡ length (textmap text) = p .place ∙ omega arith in

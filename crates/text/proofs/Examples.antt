@@ -22,9 +22,9 @@ pub record Examples : Type 0 where
       bytes "seg 0 0 1 . 1 1 3 1,0 2,0 2,1 1,1\n" ∷
       bytes "seg 1 0 1 1 0 2 2 1,0 1,1\n" ∷
       bytes "seg 2 0 1 0 . 3 1 1,0 0,0 0,1 1,1\n" ∷
-      bytes "face 0 0 1\n" ∷
+      bytes "face 0 0 1 0 0\n" ∷
       bytes "cont O 1r 2f\n" ∷
-      bytes "face 1 1 1\n" ∷
+      bytes "face 1 1 1 1 0\n" ∷
       bytes "cont O 0r 1f\n" ∷ [])
   -- a map of width 0 has its empty lines, and one of height 0 none
   pub narrow : textmap (bytes "0 2 3\n\n\n") ≡ bytes "map 0 2 3\ncount 0 0 0 0 0 0 0\n"

@@ -142,16 +142,18 @@ module _ (cs rs : List ℕ) (h : AtMost 1999 rs) where
         pieces-each (referenceAt rs) 5 (getD cs (2 * k + 1) 0) (getD cs (2 * k) 0) (λ j n. reference-at 2 rs j (inr (omega (arith, most-at 1999 rs h j)))),
       ))
 
-  pub face-short : (fs : List ℕ) (i : ℕ) → i < 1000 → getD fs (3 * i) 0 ≤ NONE → getD fs (3 * i + 2) 0 < 1000
-      → length (faceLines fs cs rs i) ≤ 24 + sum (contourMost cs) (upto (getD fs (3 * i + 2) 0) (getD fs (3 * i + 1) 0))
+  pub face-short : (fs : List ℕ) (i : ℕ) → i < 1000 → getD fs (5 * i) 0 ≤ NONE → getD fs (5 * i + 2) 0 < 1000 → getD fs (5 * i + 3) 0 < 100 → getD fs (5 * i + 4) 0 < 100
+      → length (faceLines fs cs rs i) ≤ 30 + sum (contourMost cs) (upto (getD fs (5 * i + 2) 0) (getD fs (5 * i + 1) 0))
   unfolding faceLines
-  face-short fs i m r n =
-      let first = getD fs (3 * i + 1) 0 in
+  face-short fs i m r n x y =
+      let first = getD fs (5 * i + 1) 0 in
       simp length-append
       (omega (
         arith,
         field-short 2 i (omega arith),
-        field-at 9 fs (3 * i) (omega arith),
-        field-at 2 fs (3 * i + 2) (omega arith),
-        pieces-most (contLine cs rs first) (contourMost cs) (getD fs (3 * i + 2) 0) first (λ k j. cont-short first k),
+        field-at 9 fs (5 * i) (omega arith),
+        field-at 2 fs (5 * i + 2) (omega arith),
+        field-at 1 fs (5 * i + 3) (omega arith),
+        field-at 1 fs (5 * i + 4) (omega arith),
+        pieces-most (contLine cs rs first) (contourMost cs) (getD fs (5 * i + 2) 0) first (λ k j. cont-short first k),
       ))

@@ -69,7 +69,7 @@ unfolding faceLines fieldAt
 face-same {fs} {fs′} {cs} {cs′} {rs} {rs′} e c r = λ j i. each i j
   where
     each : (i : ℕ) → faceLines fs cs rs i ≡ faceLines fs′ cs′ rs′ i
-    each i = rw (e .word (3 * i), e .word (3 * i + 1), e .word (3 * i + 2)) (rw (cont-same c r))
+    each i = rw (e .word (5 * i), e .word (5 * i + 1), e .word (5 * i + 2), e .word (5 * i + 3), e .word (5 * i + 4)) (rw (cont-same c r))
 
 -- THE REPORT
 module _ {ns ns′ ss ss′ ps ps′ rs rs′ cs cs′ fs fs′ : List ℕ} (n : Same ns ns′) (s : Same ss ss′) (p : Same ps ps′) (r : Same rs rs′) (c : Same cs cs′) (f : Same fs fs′) where

@@ -3,7 +3,7 @@
 use Prim.Native.Nat.{ℕ, _+_, _*_, _/_, _<_, _≤_}
 use mathlib.Core.Path.{_≡_, refl, ap}
 use mathlib.Core.Logic.{_⊎_, ⊎-elim}
-use mathlib.Core.List.{List}
+use mathlib.Core.List.{List, []}
 use native.Mathlib.Nat.{mul-le-mul, mul-assoc}
 use native.Mathlib.Omega.{arith}
 use lib.ListN.{length, getD, length-append}
@@ -20,6 +20,7 @@ use Rattle.rules.proofs.Tracing.Partition.{describes}
 use Rattle.rules.proofs.Tracing.Counts.{step-count}
 use Rattle.rules.proofs.CutList.Counts.{Counts, counts, bounds}
 use Rattle.rules.proofs.CutList.Values.{AtMost, most-more, node-values, segment-values, label-most, point-values, reference-values, region-values, contours-most}
+use Rattle.rules.proofs.CutList.Placed.{placed-words}
 use Rattle.rules.proofs.CutList.Parts.{segments-fill, contours-fill, ofFace, faces-fill}
 use Rattle.calls.proofs.Demands.Answered.{every-whole}
 use Rattle.text.specs.Output.{pieces, mapLine, countLine, nodeLine, segLine, faceLines, report}
@@ -72,7 +73,7 @@ pub record Room (ws ns ss ps rs cs fs : List ℕ) : Type 0 where
   pub points : 2176 ≤ length ps
   pub references : 1088 ≤ length rs
   pub contours : 578 ≤ length cs
-  pub faces : 768 ≤ length fs
+  pub faces : 1280 ≤ length fs
 
 -- as many as are needed
 fits : (have need most : ℕ) → need ≤ most → most ≤ have → have < need → ⊥
@@ -91,7 +92,7 @@ enough m work ns ss ps rs cs fs s r =
     let points = fits (length ps / 2) (length (l .points) / 2) 1088 (c .points) (omega (arith, r .points)) in
     let references = fits (length rs / 1) (length (l .references) / 1) 1088 (omega (arith, c .references)) (omega (arith, r .references)) in
     let contours = fits (length cs / 2) (length (l .contours) / 2) 289 (c .contours) (omega (arith, r .contours)) in
-    let faces = fits (length fs / 3) (length (l .faces) / 3) 256 (c .faces) (omega (arith, r .faces)) in
+    let faces = fits (length fs / 5) (length (l .faces) / 5) 256 (c .faces) (omega (arith, r .faces)) in
     every-whole m work ns ss ps rs cs fs .none .1 (side, (λ f. f (s .size), (planes, (nodes, (segments, (points, (references, (contours, (faces, tt)))))))))
 
 -- WHAT IS PRINTED
@@ -151,25 +152,26 @@ module _ (m : LabelledMap) (s : Small m) (labels : AtMost OUTSIDE (m .labels)) w
         exact .points,
       )
 
-  faces-short : length (pieces (faceLines (l .faces) (l .contours) (l .references)) (a .faces) 0) ≤ 24 * a .faces + 7 * a .contours + 5 * a .references
-  unfolding cutList cuts
+  faces-short : length (pieces (faceLines (l .faces) (l .contours) (l .references)) (a .faces) 0) ≤ 30 * a .faces + 7 * a .contours + 5 * a .references
+  unfolding cutList cuts picture
   faces-short =
       let count : ℕ → ℕ = λ k. getD (l .contours) (2 * k + 1) 0 in
       let most : ℕ → ℕ = contourMost (l .contours) in
       omega (
         arith,
-        pieces-most (faceLines (l .faces) (l .contours) (l .references)) (λ i. 24 + 1 * ofFace most (l .faces) i) (a .faces) 0
+        pieces-most (faceLines (l .faces) (l .contours) (l .references)) (λ i. 30 + 1 * ofFace most (l .faces) i) (a .faces) 0
             (λ i j.
             let b = upto-in (a .faces) 0 i j .1 in
+            let p = placed-words F (describes F) (s .word) i (record { region = 0; first = 0; contours = [] }) (omega (arith, b, exact .faces)) in
             omega (
               arith,
-              face-short (l .contours) (l .references) small (l .faces) i (omega (arith, b, few .faces)) (region-values F (describes F) (s .word) i)
-                  (omega (arith, contours-most 0 found i, few .contours, exact .contours)),
+              face-short (l .contours) (l .references) small (l .faces) i (omega (arith, b, few .faces)) (region-values F (describes F) (s .word) (m .width) i)
+                  (omega (arith, contours-most (m .width) 0 found i, few .contours, exact .contours)) (omega (arith, p .across, s .narrow)) (omega (arith, p .down, s .low)),
             )),
-        sum-linear 24 1 (ofFace most (l .faces)) (upto (a .faces) 0),
+        sum-linear 30 1 (ofFace most (l .faces)) (upto (a .faces) 0),
         length-upto (a .faces) 0,
         ap (λ (n : ℕ). sum (ofFace most (l .faces)) (upto n 0)) (exact .faces),
-        faces-fill most 0 found,
+        faces-fill most (m .width) 0 found,
         sum-linear 7 5 count (upto (length (contoursOf found)) 0),
         length-upto (length (contoursOf found)) 0,
         contours-fill 0 (contoursOf found),
@@ -181,7 +183,7 @@ module _ (m : LabelledMap) (s : Small m) (labels : AtMost OUTSIDE (m .labels)) w
       small = most-more (l .references) (omega (arith, few .segments, exact .segments)) (reference-values F (describes F) (s .word))
 
   -- all of it
-  pub printed-short : length (printed m) ≤ 53160
+  pub printed-short : length (printed m) ≤ 54696
   unfolding printed report mapLine countLine
   printed-short =
       simp length-append
@@ -209,11 +211,11 @@ module _ (m : LabelledMap) (s : Small m) (labels : AtMost OUTSIDE (m .labels)) w
       ))
 
 -- WHATEVER IS READ: such a map, or a message
-pub textmap-short : (text : List ℕ) → length (textmap text) ≤ 53160
+pub textmap-short : (text : List ℕ) → length (textmap text) ≤ 54696
 unfolding textmap answered
 textmap-short text = go (parsed text .answer) refl (parsed-words text .paints)
   where
-    go : (r : Parsed) → parsed text .answer ≡ r → PaintsMost r → length (answered r (parsed text .labels)) ≤ 53160
+    go : (r : Parsed) → parsed text .answer ≡ r → PaintsMost r → length (answered r (parsed text .labels)) ≤ 54696
     go (Map w h p) e b =
         let k = parsed-map w h p text e in
         printed-short (record { width = w; height = h; paints = p; bound = OUTSIDE; labels = parsed text .labels })

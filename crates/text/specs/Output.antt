@@ -93,11 +93,11 @@ letter first k = elim (eqb k first) [ true ↦ bytes " O" | false ↦ bytes " H"
 unfoldable pub contLine : List ℕ → List ℕ → ℕ → ℕ → List ℕ
 contLine cs rs first k = bytes "cont" ++ (letter first k ++ (pieces (referenceAt rs) (getD cs (2 * k + 1) 0) (getD cs (2 * k) 0) ++ bytes "\n"))
 
--- face: number, region, contours; its `cont` lines follow
+-- face: number, region, contours, x and y of its first pixel; its `cont` lines follow
 unfoldable pub faceLines : List ℕ → List ℕ → List ℕ → ℕ → List ℕ
 faceLines fs cs rs i =
-    bytes "face" ++ (field i ++ (fieldAt fs (3 * i) ++ (fieldAt fs (3 * i + 2) ++ (bytes "\n" ++
-    pieces (contLine cs rs (getD fs (3 * i + 1) 0)) (getD fs (3 * i + 2) 0) (getD fs (3 * i + 1) 0)))))
+    bytes "face" ++ (field i ++ (fieldAt fs (5 * i) ++ (fieldAt fs (5 * i + 2) ++ (fieldAt fs (5 * i + 3) ++ (fieldAt fs (5 * i + 4) ++ (bytes "\n" ++
+    pieces (contLine cs rs (getD fs (5 * i + 1) 0)) (getD fs (5 * i + 2) 0) (getD fs (5 * i + 1) 0)))))))
 
 -- THE WHOLE REPORT of a map: its header, the counts and the stores
 unfoldable pub report : ℕ → ℕ → ℕ → Answer → List ℕ → List ℕ → List ℕ → List ℕ → List ℕ → List ℕ → List ℕ

@@ -81,7 +81,7 @@ fn print_map(s: Size, labels: &[u32], out: &mut [u8]) -> usize
     let mut points = [0u32; 4 * CRACKS];
     let mut references = [0u32; 2 * CRACKS];
     let mut contours = [0u32; 2 * CORNERS];
-    let mut faces = [0u32; 3 * PIXELS];
+    let mut faces = [0u32; 5 * PIXELS];
     let a = calls::whole(
         s,
         labels,

@@ -231,13 +231,15 @@ fn face_lines(
     requires { ⌜ at ≤ length (now out) ⌝ }
     ensures { λ r. ⌜ Printed (now (out .entry)) at (faceLines (now (faces .entry)) (now (contours .entry)) (now (references .entry)) i) (now (out .exit)) r ⌝ }
 {
-    let k = 3 * (i as usize);
+    let k = 5 * (i as usize);
     let first = store::get(faces, k + 1);
     let count = store::get(faces, k + 2);
     let q = print::word(out, at, b"face");
     let q = print::field(out, q, i);
     let q = field_at(out, q, faces, k);
     let q = field_at(out, q, faces, k + 2);
+    let q = field_at(out, q, faces, k + 3);
+    let q = field_at(out, q, faces, k + 4);
     let q = print::byte(out, q, b'\n');
     cont_lines(out, q, contours, references, first, count)
 }

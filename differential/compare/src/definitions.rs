@@ -139,7 +139,7 @@ fn theorem(text: &mut String, i: usize, map: &Map, unfolding: &str) -> Result<()
     } = oracle::cut_list(map.width, map.height, map.paints, &map.labels);
     writeln!(
         text,
-        "pub map{i} : cutList (record {{ width = {}; height = {}; paints = {}; labels = {} }}) ≡ record {{",
+        "pub map{i} : cutList (record {{ width = {}; height = {}; paints = {}; bound = {OUTSIDE}; labels = {} }}) ≡ record {{",
         map.width,
         map.height,
         map.paints,

@@ -1,6 +1,7 @@
 //! The unchanged Rust of vtracer's mosaic mode, stages 1 and 2, and its answers as the port's words.
 //!
-//! - [`cut_list`] goes from a map to the words of the six stores and the seven counts.
+//! - [`cut_list`] goes from a map to the words of the six stores and the seven counts. The last two words of a face, its first pixel, the
+//!   Rust does not tell: they are from [`islands`], a search of their own.
 //! - [`label_map`], [`extract`] and [`assemble`] are its three steps, for who wants to time them; [`cut_list_of`] is the last.
 //!
 //! The Rust asks for a map whose label count is width × height and checks nothing; so do these.
@@ -8,6 +9,8 @@
 // The tree that build.rs laid out; the Rust's files name its parts as `crate::..`.
 include!(concat!(env!("OUT_DIR"), "/root.rs"));
 use vtracer::{ir, mosaic, simplify};
+
+pub mod islands;
 
 pub use mosaic::PixelSegmentFitter::{assemble, Contour, Face};
 pub use mosaic::{BoundaryGraph, LabelMap, Node, SegRef, Segment, OUTSIDE};
@@ -31,7 +34,7 @@ pub struct CutList {
 }
 
 /// Words of a record in each of the six stores: nodes, segments, points, references, contours, faces.
-pub const RECORD: [usize; 6] = [6, 8, 2, 1, 2, 3];
+pub const RECORD: [usize; 6] = [6, 8, 2, 1, 2, 5];
 
 impl CutList {
     /// The six stores in the order of the library's parameters.
@@ -67,11 +70,11 @@ pub fn cut_list(width: u32, height: u32, paints: u32, labels: &[u32]) -> CutList
     let map = label_map(width, height, paints, labels);
     let graph = extract(&map);
     let faces = assemble(&graph, &map);
-    cut_list_of(&graph, &faces)
+    cut_list_of(&map, &graph, &faces)
 }
 
-/// The records of a graph and its faces.
-pub fn cut_list_of(graph: &BoundaryGraph, faces: &[Face]) -> CutList {
+/// The records of a map's graph and faces.
+pub fn cut_list_of(map: &LabelMap, graph: &BoundaryGraph, faces: &[Face]) -> CutList {
     let mut out = CutList::default();
     for node in &graph.nodes {
         put_node(&mut out, node);
@@ -79,8 +82,11 @@ pub fn cut_list_of(graph: &BoundaryGraph, faces: &[Face]) -> CutList {
     for segment in &graph.segments {
         put_segment(&mut out, segment);
     }
-    for face in faces {
-        put_face(&mut out, face);
+    let islands = islands::first_pixels(map);
+    assert_eq!(islands.len(), faces.len(), "a face for each island");
+    for (face, [label, x, y]) in faces.iter().zip(islands) {
+        assert_eq!(face.region, label, "the face of its island");
+        put_face(&mut out, face, [x, y]);
     }
     out.counts = counts(&out);
     out
@@ -110,10 +116,10 @@ fn put_segment(out: &mut CutList, segment: &Segment) {
     }
 }
 
-fn put_face(out: &mut CutList, face: &Face) {
+fn put_face(out: &mut CutList, face: &Face, [x, y]: [u32; 2]) {
     let first = out.contours.len() / RECORD[4];
     out.faces
-        .extend([face.region, first as u32, face.contours.len() as u32]);
+        .extend([face.region, first as u32, face.contours.len() as u32, x, y]);
     for Contour(references) in &face.contours {
         let first = out.references.len();
         out.contours.extend([first as u32, references.len() as u32]);
@@ -147,7 +153,7 @@ mod tests {
         assert_eq!(found.counts, [2, 3, 10, 4, 2, 2, 7]);
         assert_eq!(found.nodes[..6], [1, 0, NONE, 0, 2, 4]);
         assert_eq!(found.references, [3, 4, 1, 2]);
-        assert_eq!(found.faces, [0, 0, 1, 1, 1, 1]);
+        assert_eq!(found.faces, [0, 0, 1, 0, 0, 1, 1, 1, 1, 0]);
     }
 
     #[test]

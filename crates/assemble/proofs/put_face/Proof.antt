@@ -1,6 +1,8 @@
 -- `assemble::put_face` meets its contract.
 use Prim.Native.Nat.{_*_}
-use Rattle.assemble.proofs.Writing.{three-words}
+use mathlib.Core.List.{[], _∷_}
+use mathlib.Core.Path.{sym, _∙_}
+use Rattle.store.proofs.Writes.{sets-append}
 use borrow.Author.Needs.{needs}
 use Rattle.assemble.proofs.put_face.Statement.{statement}
 use Rattle.assemble.proofs.put_face.Tie as tie
@@ -11,33 +13,24 @@ mul-put c = search needs
 put-requires : tie.Need-put-requires
 put-requires c κs = search needs
 
-mul-put-2 : tie.Need-mul-put-2
-mul-put-2 c = search needs
+mul-put4 : tie.Need-mul-put4
+mul-put4 c = search needs
 
-add-put : tie.Need-add-put
-add-put c = search needs
+add-put4 : tie.Need-add-put4
+add-put4 c = search needs
 
-put-requires-2 : tie.Need-put-requires-2
-put-requires-2 c κs = search needs
-
-mul-put-3 : tie.Need-mul-put-3
-mul-put-3 c = search needs
-
-add-put-2 : tie.Need-add-put-2
-add-put-2 c = search needs
-
-put-requires-3 : tie.Need-put-requires-3
-put-requires-3 c κs = search needs
+put4-requires : tie.Need-put4-requires
+put4-requires c κs = search needs
 
 same-length : tie.Need-same-length
 same-length c = search needs
 
 returns : tie.Need-returns
 returns c =
-    let at-put2 = c .before .before .before .before .before .before in
-    let at-put = at-put2 .before .before .before .before in
-    let start = at-put .before .before .before in
-    let a = start .args in three-words (a .faces .now) _ _ _ (3 * a .f) _ _ _ (at-put .put .ensures) (at-put2 .put2 .ensures) (c .before .before .put3 .ensures)
+    let at-put = c .before .before .before .before .before .before in
+    let a = at-put .before .before .before .args in
+    c .before .before .put4 .ensures
+    ∙ rw (at-put .put .ensures) (sym (sets-append (a .faces .now) (5 * a .f) (a .region .0 ∷ []) (a .first ∷ a .count ∷ a .x ∷ a .y ∷ [])))
 
 pub put-face-spec : {M : Type 1} → statement M
 put-face-spec =
@@ -45,11 +38,8 @@ put-face-spec =
     (tie.spec
     mul-put
     put-requires
-    mul-put-2
-    add-put
-    put-requires-2
-    mul-put-3
-    add-put-2
-    put-requires-3
+    mul-put4
+    add-put4
+    put4-requires
     same-length
     returns)

@@ -12,8 +12,8 @@ add-get c = search needs
 get-requires : tie.Need-get-requires
 get-requires c κs = search needs
 
-cast-p : tie.Need-cast-p
-cast-p c = search needs
+cast-at : tie.Need-cast-at
+cast-at c = search needs
 
 add-get-2 : tie.Need-add-get-2
 add-get-2 c = search needs
@@ -44,6 +44,16 @@ cast-put-face-2 c =
     let listed = c .before .before .before .before .before .before .before in
     omega (arith, stays-low (listed .before .before .before .before .before .before .before .before .before .before .pre) (listed .before .before .before .before .get .ensures) (listed .before .before .before .get2 .ensures) (listed .write-contours .ensures))
 
+rem-put-face : tie.Need-rem-put-face
+rem-put-face c =
+    let start = c .before .before .before .before .before .before .before .before .before .before .before .before .before .before .before .before .before in
+    omega (arith, start .pre .wide)
+
+div-put-face : tie.Need-div-put-face
+div-put-face c =
+    let start = c .before .before .before .before .before .before .before .before .before .before .before .before .before .before .before .before .before in
+    omega (arith, start .pre .wide)
+
 put-face-requires : tie.Need-put-face-requires
 put-face-requires c κs = search needs
 
@@ -60,7 +70,7 @@ returns : tie.Need-returns
 returns c =
     let at-get3 = c .before .before .before .before in
     let listed = at-get3 .before .before .before .before .before .before in
-    face-written (listed .before .before .before .before .before .before .before .before .before .before .pre) (listed .before .before .before .before .get .ensures) (listed .before .before .before .get2 .ensures) (listed .write-contours .ensures) (at-get3 .get3 .ensures) refl (c .before .before .put-face .ensures)
+    face-written (listed .before .before .before .before .before .before .before .before .before .before .pre) (listed .before .before .before .before .get .ensures) (listed .before .before .before .get2 .ensures) (listed .write-contours .ensures) (at-get3 .get3 .ensures) refl refl refl (c .before .before .put-face .ensures)
 
 pub write-face-spec : {M : Type 1} → statement M
 write-face-spec =
@@ -68,7 +78,7 @@ write-face-spec =
     (tie.spec
     add-get
     get-requires
-    cast-p
+    cast-at
     add-get-2
     get-requires-2
     write-contours-requires
@@ -76,6 +86,8 @@ write-face-spec =
     get-requires-3
     cast-put-face
     cast-put-face-2
+    rem-put-face
+    div-put-face
     put-face-requires
     same-length
     same-length-2

@@ -11,16 +11,16 @@ use Rattle.assemble.proofs.write_faces.Statement.{statement}
 use Rattle.assemble.proofs.write_faces.Tie as tie
 
 abbrev Inv-loop : tie.InvT-loop
-Inv-loop labels work trail heads list references₀ contours₀ faces₀ m done₀ f₀ references contours faces done f =
+Inv-loop labels work trail heads list references₀ contours₀ faces₀ width m done₀ f₀ references contours faces done f =
     (f ≤ m)
-    × ((fs : List Face) → Ordered labels trail heads list m work fs → WroteFaces 0 (take f fs) nothing references₀ contours₀ faces₀ done references contours faces)
+    × ((fs : List Face) → Ordered width labels trail heads list m work fs → WroteFaces width 0 (take f fs) nothing references₀ contours₀ faces₀ done references contours faces)
 
 abbrev μ-loop : tie.MeasureT-loop
-μ-loop labels work trail heads list references₀ contours₀ faces₀ m done₀ f₀ references contours faces done f =
+μ-loop labels work trail heads list references₀ contours₀ faces₀ width m done₀ f₀ references contours faces done f =
     m - f
 
 loop-holds : tie.Need-loop-holds Inv-loop μ-loop
-loop-holds c = (omega arith, λ fs o. none-written _ _ _)
+loop-holds c = (omega arith, λ fs o. none-written _ _ _ _)
 
 write-face-requires : tie.Need-write-face-requires Inv-loop μ-loop
 write-face-requires c κs =

@@ -9,7 +9,7 @@ use Rattle.rules.specs.Lists.{keep, flat, upto, among}
 use Rattle.rules.specs.Picture.{OUTSIDE, seen, label, northwest, picture, sameDart, toX, toY, turned, leftAt, left, right, crack, degree, node}
 use Rattle.rules.specs.Graph.{wayOn, onward, following, meets, ending, walk, fuel, on, visit, trace, row, rows, out, corners, nodes, segments}
 use Rattle.rules.specs.Face.{pixels, labelOf, lesser, lesser3, least, rounds, firsts, backwards, refs, steps, firstStep, lastStep, outEntry, keeps, successor, turn, region, isOpen, next, round, enter, discover, contours, insert, sorted, islands, besideAt, islandOf, face, faces}
-use Rattle.rules.specs.Records.{nodeRecord, nodeWords, nodeAt, pointRecords, pointWords, segmentWords, contoursOf, contourWords, faceWords}
+use Rattle.rules.specs.Records.{nodeRecord, nodeWords, nodeAt, pointRecords, pointWords, segmentWords, contoursOf, contourWords, faceWords, unplaced}
 use Rattle.rules.specs.Calls.{Map, CutList, cuts, cutList, labelAt}
 use Rattle.rules.proofs.CutList.Agree.{Alike}
 use Rattle.rules.proofs.CutList.Unshared.{pointsOf, SameCuts}
@@ -29,12 +29,12 @@ Apart m n = Alike 1 (labelAt m 0 0) (labelAt n 0 0) → ⊥
 pub record ButPoints (l m : CutList) : Type 0 where
   pub references : l .references ≡ m .references
   pub contours : l .contours ≡ m .contours
-  pub faces : l .faces ≡ m .faces
+  pub faces : unplaced (l .faces) ≡ unplaced (m .faces)
 
 pub record ButReferences (l m : CutList) : Type 0 where
   pub points : l .points ≡ m .points
   pub contours : l .contours ≡ m .contours
-  pub faces : l .faces ≡ m .faces
+  pub faces : unplaced (l .faces) ≡ unplaced (m .faces)
 
 pub record Sharp : Type 0 where
   -- two unpainted labels share a cut list: where no label is painted, the labels need not be equal
@@ -54,7 +54,7 @@ pub record Sharp : Type 0 where
 abbrev Pair : ℕ → ℕ → Type 0
 Pair a b =
     (cutList (pair a b) .points ≡ 1 ∷ 0 ∷ 2 ∷ 0 ∷ 2 ∷ 1 ∷ 1 ∷ 1 ∷ 1 ∷ 0 ∷ 1 ∷ 1 ∷ 1 ∷ 0 ∷ 0 ∷ 0 ∷ 0 ∷ 1 ∷ 1 ∷ 1 ∷ [])
-    × (cutList (pair a b) .contours ≡ 0 ∷ 2 ∷ []) × (cutList (pair a b) .faces ≡ 0 ∷ 0 ∷ 1 ∷ [])
+    × (cutList (pair a b) .contours ≡ 0 ∷ 2 ∷ []) × (unplaced (cutList (pair a b) .faces) ≡ 0 ∷ 0 ∷ 1 ∷ [])
 
 -- what the rules compute on these maps
 record Computed : Type 0 where
@@ -69,7 +69,7 @@ record Computed : Type 0 where
   right-painted : Pair 1 0
 
 computed : Computed
-unfolding keep flat upto among seen label northwest picture sameDart toX toY turned leftAt left right crack degree node wayOn onward following meets ending walk fuel on visit trace row rows out corners nodes segments pixels labelOf lesser lesser3 least rounds firsts backwards refs steps firstStep lastStep outEntry keeps successor turn region isOpen next round enter discover contours insert sorted islands besideAt islandOf face faces nodeRecord nodeWords nodeAt pointRecords pointWords segmentWords contoursOf contourWords faceWords cuts cutList
+unfolding keep flat upto among seen label northwest picture sameDart toX toY turned leftAt left right crack degree node wayOn onward following meets ending walk fuel on visit trace row rows out corners nodes segments pixels labelOf lesser lesser3 least rounds firsts backwards refs steps firstStep lastStep outEntry keeps successor turn region isOpen next round enter discover contours insert sorted islands besideAt islandOf face faces nodeRecord nodeWords nodeAt pointRecords pointWords segmentWords contoursOf contourWords faceWords unplaced cuts cutList
 computed = record {
   one = refl;
   other = refl;

@@ -41,7 +41,7 @@ module _ {P : Picture} (F : Framed P) {ss : List (List Dart)} (D : Describes P s
     points = omega (arith, length-points ss (has-step F D), step-count F D);
     references = refl;
     contours = omega (arith, length-contours 0 (contoursOf fs));
-    faces = omega (arith, length-faces 0 fs);
+    faces = omega (arith, length-faces (P .w) 0 fs);
     steps = step-count F D;
   }
 

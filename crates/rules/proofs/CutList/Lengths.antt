@@ -41,7 +41,7 @@ unfolding contourWords
 length-contours i [] = refl
 length-contours i (c ∷ cs) = omega (arith, length-contours (i + length c) cs)
 
-pub length-faces : (i : ℕ) (fs : List Face) → length (faceWords i fs) ≡ 3 * length fs
+pub length-faces : (w i : ℕ) (fs : List Face) → length (faceWords w i fs) ≡ 5 * length fs
 unfolding faceWords
-length-faces i [] = refl
-length-faces i (f ∷ fs) = omega (arith, length-faces (i + length (f .contours)) fs)
+length-faces w i [] = refl
+length-faces w i (f ∷ fs) = omega (arith, length-faces w (i + length (f .contours)) fs)

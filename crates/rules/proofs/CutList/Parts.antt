@@ -43,21 +43,21 @@ contours-fill a (c ∷ cs) =
 module _ (g : ℕ → ℕ) where
   -- of the contours of the face i
   abbrev pub ofFace : List ℕ → ℕ → ℕ
-  ofFace ws i = sum g (upto (getD ws (3 * i + 2) 0) (getD ws (3 * i + 1) 0))
+  ofFace ws i = sum g (upto (getD ws (5 * i + 2) 0) (getD ws (5 * i + 1) 0))
 
-  pub faces-fill : (a : ℕ) (fs : List Face) → sum (ofFace (faceWords a fs)) (upto (length fs) 0) ≡ sum g (upto (length (contoursOf fs)) a)
+  pub faces-fill : (w a : ℕ) (fs : List Face) → sum (ofFace (faceWords w a fs)) (upto (length fs) 0) ≡ sum g (upto (length (contoursOf fs)) a)
   unfolding faceWords contoursOf flat upto
-  faces-fill a [] = refl
-  faces-fill a (f ∷ fs) =
+  faces-fill w a [] = refl
+  faces-fill w a (f ∷ fs) =
       let n = length (f .contours) in
       omega (
         arith,
-        later (ofFace (faceWords a (f ∷ fs))) (ofFace (faceWords (a + n) fs)) (length fs)
+        later (ofFace (faceWords w a (f ∷ fs))) (ofFace (faceWords w (a + n) fs)) (length fs)
             (λ i.
-            let p : 3 * suc i + 2 ≡ suc (suc (suc (3 * i + 2))) = omega arith in
-            let q : 3 * suc i + 1 ≡ suc (suc (suc (3 * i + 1))) = omega arith in
+            let p : 5 * suc i + 2 ≡ suc (suc (suc (suc (suc (5 * i + 2))))) = omega arith in
+            let q : 5 * suc i + 1 ≡ suc (suc (suc (suc (suc (5 * i + 1))))) = omega arith in
             rw (p, q)),
-        faces-fill (a + n) fs,
+        faces-fill w (a + n) fs,
         ap (λ (m : ℕ). sum g (upto m a)) (length-append (f .contours) (contoursOf fs)),
         ap (sum g) (upto-split n (length (contoursOf fs)) a),
         sum-append g (upto n a) (upto (length (contoursOf fs)) (a + n)),

@@ -10,7 +10,7 @@ use Rattle.rules.specs.Lists.{flat}
 use Rattle.rules.specs.Picture.{Picture, picture, northwest, OUTSIDE, Dart, crack}
 use Rattle.rules.specs.Graph.{segments}
 use Rattle.rules.specs.Face.{Face, faces}
-use Rattle.rules.specs.Records.{pointRecords, pointWords, segmentWords}
+use Rattle.rules.specs.Records.{pointRecords, pointWords, segmentWords, unplaced}
 use Rattle.rules.specs.Calls.{Map, pictureOf, Accepted, labelAt, CutList, cuts, cutList}
 use Rattle.rules.proofs.Lattice.Frame.{Framed, picture-framed}
 use Rattle.rules.proofs.Ground.Lists.{in-flat}
@@ -29,12 +29,12 @@ pointsOf l i =
     let count = getD (l .segments) (8 * i + 1) 0 in
     take (2 * count) (drop (2 * first) (l .points))
 
--- the points of every segment are equal, and so are the faces with their contours and references
+-- the points of every segment are equal, and so are the faces, but for their first pixels, with their contours and references
 pub record SameCuts (l m : CutList) : Type 0 where
   pub points : (i : ℕ) → pointsOf l i ≡ pointsOf m i
   pub references : l .references ≡ m .references
   pub contours : l .contours ≡ m .contours
-  pub faces : l .faces ≡ m .faces
+  pub faces : unplaced (l .faces) ≡ unplaced (m .faces)
 
 -- THE POINTS OF A SEGMENT, read from the words
 
@@ -90,7 +90,7 @@ module _ {P Q : Picture} (F : Framed P) (G : Framed Q) {ss ts : List (List Dart)
       let gs = faces Q ts paints in
       same-labels F G D E b
       (same-segments F G D E (λ i. sym (points-are F D fs i) ∙ k .points i ∙ points-are G E gs i))
-      (same-faces fs gs (k .references) (k .contours) (k .faces))
+      (same-faces (P .w) (Q .w) fs gs (k .references) (k .contours) (k .faces))
 
 -- THE DEMAND
 
@@ -115,14 +115,14 @@ no-shared-cut-list m n a b ew eh ep k x y hx hy =
     subst (λ p. SameCuts (cutList m) (cuts Q (segments Q) (faces Q (segments Q) p))) (sym ep) k in
     subst₂ (Alike (m .paints)) p q (same-cuts F G (describes F) (describes G) (a .word) s x y)
 
--- the same from equal words: the points, each segment's first point and point count, the references, the contours and the faces
+-- the same from equal words: the points, each segment's first point and point count, the references, the contours and the faces but for their first pixels
 pub record SameWords (l m : CutList) : Type 0 where
   pub points : l .points ≡ m .points
   pub first : (i : ℕ) → getD (l .segments) (8 * i) 0 ≡ getD (m .segments) (8 * i) 0
   pub count : (i : ℕ) → getD (l .segments) (8 * i + 1) 0 ≡ getD (m .segments) (8 * i + 1) 0
   pub references : l .references ≡ m .references
   pub contours : l .contours ≡ m .contours
-  pub faces : l .faces ≡ m .faces
+  pub faces : unplaced (l .faces) ≡ unplaced (m .faces)
 
 pub same-words : (l m : CutList) → SameWords l m → SameCuts l m
 same-words l m k = record {

@@ -223,22 +223,22 @@ module _ {P : Picture} (F : Framed P) {ss : List (List Dart)} (D : Describes P s
       let m = painted F D paints b .member (c .0) (faced F D b .arranged .into (c .0) (c .1)) r (c .2) .below in
       omega arith)
 
-  region-most : (i : ℕ) (gs : List Face) → ((f : Face) → In f gs → f .region < paints) → (k : ℕ) → getD (faceWords i gs) (3 * k) 0 ≤ paints
+  region-most : (w i : ℕ) (gs : List Face) → ((f : Face) → In f gs → f .region < paints) → (k : ℕ) → getD (faceWords w i gs) (5 * k) 0 ≤ paints
   unfolding faceWords
-  region-most i [] f k = omega arith
-  region-most i (g ∷ gs) f zero = omega (arith, f g (here refl))
-  region-most i (g ∷ gs) f (suc k) =
-      let z : 3 * suc k ≡ suc (suc (suc (3 * k))) = omega arith in
-      rw z (region-most (i + length (g .contours)) gs (λ h j. f h (there j)) k)
+  region-most w i [] f k = omega arith
+  region-most w i (g ∷ gs) f zero = omega (arith, f g (here refl))
+  region-most w i (g ∷ gs) f (suc k) =
+      let z : 5 * suc k ≡ suc (suc (suc (suc (suc (5 * k))))) = omega arith in
+      rw z (region-most w (i + length (g .contours)) gs (λ h j. f h (there j)) k)
 
-  pub region-values : (k : ℕ) → getD (faceWords 0 fs) (3 * k) 0 ≤ OUTSIDE
-  region-values k = omega (arith, region-most 0 fs (λ f i. faced F D b .face f i .painted) k)
+  pub region-values : (w k : ℕ) → getD (faceWords w 0 fs) (5 * k) 0 ≤ OUTSIDE
+  region-values w k = omega (arith, region-most w 0 fs (λ f i. faced F D b .face f i .painted) k)
 
 -- how many contours a face has
-pub contours-most : (i : ℕ) (fs : List Face) (k : ℕ) → getD (faceWords i fs) (3 * k + 2) 0 ≤ length (contoursOf fs)
+pub contours-most : (w i : ℕ) (fs : List Face) (k : ℕ) → getD (faceWords w i fs) (5 * k + 2) 0 ≤ length (contoursOf fs)
 unfolding faceWords contoursOf flat
-contours-most i [] k = omega arith
-contours-most i (f ∷ fs) zero = omega (arith, length-append (f .contours) (contoursOf fs))
-contours-most i (f ∷ fs) (suc k) =
-    let z : 3 * suc k + 2 ≡ suc (suc (suc (3 * k + 2))) = omega arith in
-    rw z (omega (arith, length-append (f .contours) (contoursOf fs), contours-most (i + length (f .contours)) fs k))
+contours-most w i [] k = omega arith
+contours-most w i (f ∷ fs) zero = omega (arith, length-append (f .contours) (contoursOf fs))
+contours-most w i (f ∷ fs) (suc k) =
+    let z : 5 * suc k + 2 ≡ suc (suc (suc (suc (suc (5 * k + 2))))) = omega arith in
+    rw z (omega (arith, length-append (f .contours) (contoursOf fs), contours-most w (i + length (f .contours)) fs k))

@@ -9,7 +9,7 @@ use lib.Seq.{drop-append-seam, take-append-seam}
 use Rattle.rules.specs.Lists.{flat}
 use Rattle.rules.specs.Picture.{Picture, Dir, N, E, S, W, Dart, dart, toX, toY, crack, aheadY, aheadX}
 use Rattle.rules.specs.Face.{Face}
-use Rattle.rules.specs.Records.{pointRecords, contoursOf, contourWords, faceWords}
+use Rattle.rules.specs.Records.{pointRecords, contoursOf, contourWords, faceWords, unplaced}
 use Rattle.rules.proofs.Lattice.Frame.{Framed}
 use Rattle.rules.proofs.Lattice.Darts.{no-north, no-west, dart-path}
 use Rattle.rules.proofs.CutList.Lengths.{length-record}
@@ -51,21 +51,21 @@ contour-lengths i j (c ∷ cs) (d ∷ ds) e =
 pub same-contours : (cs ds : List (List ℕ)) → flat cs ≡ flat ds → contourWords 0 cs ≡ contourWords 0 ds → cs ≡ ds
 same-contours cs ds e w = same-flat cs ds (contour-lengths 0 0 cs ds w) e
 
-face-views : (i j : ℕ) (fs gs : List Face) → faceWords i fs ≡ faceWords j gs → contoursOf fs ≡ contoursOf gs → map view fs ≡ map view gs
-unfolding faceWords contoursOf flat
-face-views i j [] [] w e = refl
-face-views i j [] (g ∷ gs) w e = absurd (let z = ap length w in omega arith)
-face-views i j (f ∷ fs) [] w e = absurd (let z = ap length w in omega arith)
-face-views i j (f ∷ fs) (g ∷ gs) w e =
+face-views : (w v i j : ℕ) (fs gs : List Face) → unplaced (faceWords w i fs) ≡ unplaced (faceWords v j gs) → contoursOf fs ≡ contoursOf gs → map view fs ≡ map view gs
+unfolding faceWords unplaced contoursOf flat
+face-views w v i j [] [] s e = refl
+face-views w v i j [] (g ∷ gs) s e = absurd (let z = ap length s in omega arith)
+face-views w v i j (f ∷ fs) [] s e = absurd (let z = ap length s in omega arith)
+face-views w v i j (f ∷ fs) (g ∷ gs) s e =
     let r : f .region ≡ g .region = cc in
     let h : length (f .contours) ≡ length (g .contours) = cc in
-    let k : faceWords (i + length (f .contours)) fs ≡ faceWords (j + length (g .contours)) gs = cc in
+    let k : unplaced (faceWords w (i + length (f .contours)) fs) ≡ unplaced (faceWords v (j + length (g .contours)) gs) = cc in
     let p = same-parts (f .contours) (contoursOf fs) (g .contours) (contoursOf gs) h e in
-    ap₂ (λ a b. a ∷ b) (λ t. (r t, p .0 t)) (face-views (i + length (f .contours)) (j + length (g .contours)) fs gs k (p .1))
+    ap₂ (λ a b. a ∷ b) (λ t. (r t, p .0 t)) (face-views w v (i + length (f .contours)) (j + length (g .contours)) fs gs k (p .1))
 
-pub same-faces : (fs gs : List Face) → flat (contoursOf fs) ≡ flat (contoursOf gs) → contourWords 0 (contoursOf fs) ≡ contourWords 0 (contoursOf gs) → faceWords 0 fs ≡ faceWords 0 gs
+pub same-faces : (w v : ℕ) (fs gs : List Face) → flat (contoursOf fs) ≡ flat (contoursOf gs) → contourWords 0 (contoursOf fs) ≡ contourWords 0 (contoursOf gs) → unplaced (faceWords w 0 fs) ≡ unplaced (faceWords v 0 gs)
     → map view fs ≡ map view gs
-same-faces fs gs r c f = face-views 0 0 fs gs f (same-contours (contoursOf fs) (contoursOf gs) r c)
+same-faces w v fs gs r c f = face-views w v 0 0 fs gs f (same-contours (contoursOf fs) (contoursOf gs) r c)
 
 -- POINTS
 
