@@ -104,6 +104,7 @@ impl Cutter {
         // and the labels are borrowed. The library's promise holds for stores of any length, whatever words they hold.
         unsafe {
             ffi::mosaic_whole(
+                0, // plain
                 map.width,
                 map.height,
                 map.paints,
