@@ -30,7 +30,7 @@ pub struct Answer {
 }
 
 // The answer to a map that was not looked at.
-fn refuse(number: u32) -> Answer
+pub fn refuse(number: u32) -> Answer
     ensures { λ r. ⌜ answerOf r ≡ refused number ⌝ }
 {
     Answer {
@@ -67,7 +67,7 @@ pub fn check_map(s: Size, labels: &[u32], work: &[u32]) -> u32
 }
 
 // Of a store that holds `held` records and must hold `needed`: the number if it is short.
-fn short(number: u32, held: usize, needed: u32) -> u32
+pub fn short(number: u32, held: usize, needed: u32) -> u32
     ensures { λ r. ⌜ r ≡ firstHit (record { number = number; hits = ltb held needed } ∷ []) ⌝ }
 {
     if held < needed as usize {
@@ -161,7 +161,7 @@ pub fn clear(s: Size, work: &mut [u32])
 }
 
 // The graph's counts, without a word written.
-fn count_graph(s: Size, labels: &[u32], work: &mut [u32]) -> Counts
+pub fn count_graph(s: Size, labels: &[u32], work: &mut [u32]) -> Counts
     requires { ⌜ Map s (now labels) ⌝ ∗ ⌜ 8 * plane (s .width) (s .height) ≤ length (now work) ⌝ }
     ensures { λ r. ⌜ CountsGraph s (now (labels .entry)) (now (work .entry)) (now (work .exit)) r ⌝ }
 {
@@ -188,7 +188,7 @@ fn answer_graph(c: Counts) -> Answer
 }
 
 // The answer to a map whose graph has the counts c, and its faces the counts f.
-fn answer_whole(c: Counts, f: face::Counts) -> Answer
+pub fn answer_whole(c: Counts, f: face::Counts) -> Answer
     ensures { λ r. ⌜ r ≡ withFaces c f ⌝ }
 {
     let mut a = answer_graph(c);
@@ -199,7 +199,7 @@ fn answer_whole(c: Counts, f: face::Counts) -> Answer
 }
 
 // The counts of the faces beside the graph's.
-fn count_faces(s: Size, labels: &[u32], work: &mut [u32], c: Counts) -> Answer
+pub fn count_faces(s: Size, labels: &[u32], work: &mut [u32], c: Counts) -> Answer
     requires { ⌜ Map s (now labels) ⌝ ∗ ⌜ 8 * plane (s .width) (s .height) ≤ length (now work) ⌝ ∗ ⌜ GraphCounted s (now labels) (now work) c ⌝ }
     ensures { λ r. ⌜ CountsFaces s (now (labels .entry)) (now (work .entry)) c (now (work .exit)) r ⌝ }
 {
