@@ -6,3 +6,10 @@ pub mod Area
 pub mod Pieces
 pub mod Loops
 pub mod Summing
+pub mod Walking
+pub mod Finding
+pub mod Rows
+pub mod Numbering
+pub mod Facing
+pub mod Answering
+pub mod OneOutcome

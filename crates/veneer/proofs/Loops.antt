@@ -6,12 +6,13 @@ use mathlib.Core.List.{List, [], _∷_, List·Memᴰ as In, List·Memᴰ·head a
 use native.Mathlib.Omega.{arith}
 use lib.Dec.{eqb}
 use lib.IntN.{ℤ, pos, _+ℤ_}
-use lib.ListN.{length, getD}
+use lib.ListN.{length}
 use borrow.Author.Tests.{eqb-true, eq-eqb}
 use Rattle.rules.specs.Lists.{keep, flat}
 use Rattle.rules.specs.Picture.{Picture, OUTSIDE, E, Dart, dart, left, crack}
-use Rattle.rules.specs.Face.{labelOf, island, noDart, turn}
+use Rattle.rules.specs.Face.{labelOf, island, turn}
 use Rattle.veneer.specs.Sums.{total, signed}
+use Rattle.veneer.specs.Steps.{share}
 use Rattle.rules.proofs.Ground.Lists.{keep-in, in-keep, keep-distinct, keep-append, in-flat, flat-in}
 use Rattle.rules.proofs.Ground.Cycles.{cycle-all, same-cycle}
 use Rattle.rules.proofs.Ground.Sums.{sum}
@@ -46,10 +47,6 @@ total-parts f t [] = refl
 total-parts f t (l ∷ ls) =
     ap (λ n. total f (keep t l) +ℤ n) (total-parts f t ls)
     ∙ sym (ap (total f) (keep-append t l (flat ls)) ∙ total-append f (keep t l) (keep t (flat ls)))
-
--- what a loop adds to the island p: its sum, if its first step has the island on its left
-abbrev pub share : Picture → ℕ → List Dart → ℤ
-share P p c = elim (eqb (island P (getD c 0 noDart)) p) [ true ↦ total signed c | false ↦ pos 0 ]
 
 module _ {P : Picture} (F : Framed P) {paints : ℕ} (b : paints ≤ OUTSIDE) (cs : List (List Dart)) (g : Loops P paints cs)
     (easts : (i j : ℕ) → IsPainted P paints (dart i j E) → In (dart i j E) (flat cs)) (p : ℕ) (f : First P paints p) where
