@@ -81,7 +81,7 @@ pub fn check_map(s: Size, labels: &[u32], work: &[u32]) -> u32
 }
 
 // Of a store that holds `held` records and must hold `needed`: the number if it is short.
-fn short(number: u32, held: usize, needed: u32) -> u32
+pub fn short(number: u32, held: usize, needed: u32) -> u32
     ensures { λ r. ⌜ r ≡ firstHit (record { number = number; hits = ltb held needed } ∷ []) ⌝ }
 {
     if held < needed as usize {
@@ -202,7 +202,7 @@ fn answer_graph(c: Counts) -> Answer
 }
 
 // The answer to a map whose graph has the counts c, and its faces the counts f.
-fn answer_whole(c: Counts, f: face::Counts) -> Answer
+pub fn answer_whole(c: Counts, f: face::Counts) -> Answer
     ensures { λ r. ⌜ r ≡ withFaces c f ⌝ }
 {
     let mut a = answer_graph(c);

@@ -1,3 +1,4 @@
 pub mod Outcomes
 pub mod Moved
 pub mod OneListing
+pub mod OneMeasure

@@ -2,6 +2,7 @@
 pub mod bench;
 pub mod flatten;
 pub mod listings;
+pub mod measuring;
 pub mod merging;
 pub mod on_sheet;
 

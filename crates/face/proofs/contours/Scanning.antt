@@ -61,6 +61,10 @@ module _ {s : Size} {ls : List ℕ} {at : ℕ} where
         go i j (inl b) p = c .done i j b p
         go i j (inr e) p = rw (e .0, e .1) (h (rw (e .0, e .1) at p))
 
+    pub skip-loops : (h : IsPainted (pic s ls) (s .paints) (dart x y E) → In (dart x y E) (flat (c .cs))) → skip h .scan .cs ≡ c .cs
+    unfolding skip scan-to
+    skip-loops h = refl
+
     -- at the end of a row
     pub row-over : x ≡ s .width → Scan s ls at 0 (suc y) work f
     unfolding picture
@@ -69,6 +73,10 @@ module _ {s : Size} {ls : List ℕ} {at : ℕ} where
         go : (i j : ℕ) → Before i j 0 (suc y) → IsPainted (pic s ls) (s .paints) (dart i j E) → In (dart i j E) (flat (c .cs))
         go i j (inr h) p = let k = h .1 in absurd (omega arith)
         go i j (inl h) p = c .done i j (elim (decLt j y) [ yes k ↦ inl k | no k ↦ inr (omega arith, rw e (east (framed s ls) i j (p .cracked))) ]) p
+
+    pub row-loops : (e : x ≡ s .width) → row-over e .cs ≡ c .cs
+    unfolding row-over scan-to
+    row-loops e = refl
 
     -- the counters have room
     pub few-contours : Map s ls → f .contours ≤ 1073872900
@@ -88,6 +96,10 @@ module _ {s : Size} {ls : List ℕ} {at : ℕ} where
     where
       all : (i j : ℕ) → IsPainted (pic s ls) (s .paints) (dart i j E) → In (dart i j E) (flat (c .cs))
       all i j p = c .done i j (inl (omega (arith, crack-y (framed s ls) (dart i j E) (p .cracked)))) p
+
+pub start-loops : (s : Size) (ls : List ℕ) (at : ℕ) (work : List ℕ) (b : Blank s at work) → scan-start {ls = ls} work b .cs ≡ []
+unfolding scan-start
+start-loops s ls at work b = refl
 
 -- THE DART AT (x, y) HAS A LOOP OF ITS OWN
 
@@ -113,6 +125,7 @@ module _ {s : Size} {ls : List ℕ} {at x y : ℕ} {work work′ : List ℕ} {f 
   abbrev l : List Dart
   l = loopOf P a
 
+  -- the loops that are found then
   abbrev ds : List (List Dart)
   ds = c .cs ++ (l ∷ [])
 
@@ -179,3 +192,7 @@ module _ {s : Size} {ls : List ℕ} {at x y : ℕ} {work work′ : List ℕ} {f 
       others = λ i h. rw words (keeps-off at (s .width) l work i (apart i h));
     };
   }
+
+  pub add-loops : add .scan .cs ≡ ds
+  unfolding add
+  add-loops = refl
