@@ -2,11 +2,12 @@
  * mosaic.h: the cut list of a label map, for C and C++.
  *
  * A map is a width, a height, a paint count and width x height labels, row by row. A label is painted when it is below the paint
- * count; MOSAIC_OUTSIDE marks a pixel that belongs to no piece, and so reads every pixel off the map. Three calls look at a map:
+ * count; MOSAIC_OUTSIDE marks a pixel that belongs to no piece, and so reads every pixel off the map. These calls look at a map:
  *
  *   mosaic_size   counts its cut list;
  *   mosaic_graph  writes its nodes, segments and points;
- *   mosaic_whole  writes these and its references, contours and faces.
+ *   mosaic_whole  writes these and its references, contours and faces;
+ *   mosaic_veneer writes how many pixels are in each face.
  *
  * Link the archive that `rt staticlib mosaic` writes, target/staticlib/libmosaic.a (x86-64 Linux). It needs memset and no more of C.
  *
@@ -33,6 +34,7 @@
  *   3      the work store is shorter than 8 x (width+1) x (height+1) words
  *   4 5 6  the node, segment, point store holds fewer records than the map needs     (graph and whole)
  *   7 8 9  the reference, contour, face store likewise                               (whole)
+ *   9      the store of sums holds fewer numbers than the map has faces              (veneer)
  *
  *                        after 1, 2, 3     after 4 to 9              after 0
  *   counts               all 0             the map's true counts     the map's true counts
@@ -173,6 +175,21 @@ void mosaic_whole(uint32_t mode, uint32_t width, uint32_t height, uint32_t paint
                   uint32_t *contours, size_t contours_len,
                   uint32_t *faces, size_t faces_len,
                   mosaic_answer *answer);
+
+/*
+ * HOW MUCH VENEER IS IN EACH PIECE. The sum of each face, in face order, into a store of signed 64-bit numbers: `sums_len` is its length in
+ * numbers, and every pointer to it is aligned for int64_t. A contour's own sum goes over its unit steps in their direction: y for a step east,
+ * minus y for a step west. A face's sum is that of its contours, and it is the number of its pixels; all sums together are the number of
+ * painted pixels. The rest is as in mosaic_size: 1 to 3, and then 9 (MOSAIC_SHORT_FACES) when the store holds fewer numbers than there are
+ * faces; no sum is then written. On 0 the numbers past the last face keep their value.
+ *
+ * A contour whose own sum is above zero is an outline, any other is the rim of a hole. It is not always the first contour of its face.
+ */
+void mosaic_veneer(uint32_t mode, uint32_t width, uint32_t height, uint32_t paints,
+                   const uint32_t *labels, size_t labels_len,
+                   uint32_t *work, size_t work_len,
+                   int64_t *sums, size_t sums_len,
+                   mosaic_answer *answer);
 
 #ifdef __cplusplus
 }
