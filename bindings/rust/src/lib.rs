@@ -23,8 +23,10 @@
 mod cutter;
 pub mod ffi;
 mod list;
+mod veneer;
 
 pub use cutter::{cut, Cutter, Map, Refusal};
 pub use list::{
     Contour, CutList, Direction, Face, Node, NodeId, Point, RegionId, SegRef, Segment, SegmentId,
 };
+pub use veneer::veneer;

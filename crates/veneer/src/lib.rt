@@ -178,14 +178,7 @@ fn sum_all(s: Size, labels: &[u32], work: &mut [u32], sums: &mut [i64], at: usiz
 // THE FACES, numbered by their first pixels
 
 // The word of each of the m pixels that are listed is its place in the list, in the part from `heads` up to `ids`; the first m sums are 0.
-fn number_faces(
-    work: &mut [u32],
-    sums: &mut [i64],
-    heads: usize,
-    ids: usize,
-    list: usize,
-    m: usize,
-)
+fn number_faces(work: &mut [u32], sums: &mut [i64], heads: usize, ids: usize, list: usize, m: usize)
     requires { ⌜ Numberable heads ids list m (now work) (now sums) ⌝ }
     ensures { λ _. ⌜ Numbers heads ids list m (now (work .entry)) (now (sums .entry)) (now (work .exit)) (now (sums .exit)) ⌝ }
 {
