@@ -329,4 +329,20 @@ impl<'a> Contour<'a> {
         self.references()
             .flat_map(move |reference| list.path(reference).skip(1))
     }
+
+    /// Its own sum: y for each unit step east, minus y for each west. The sums of a face's contours are together its pixel count.
+    pub fn sum(&self) -> i64 {
+        let list = self.list;
+        let east = |reference| {
+            let points = list.path(reference);
+            let next = list.path(reference).skip(1);
+            points.zip(next).map(|(a, b)| (i64::from(b.x) - i64::from(a.x)) * i64::from(a.y))
+        };
+        self.references().flat_map(east).sum()
+    }
+
+    /// Whether it is the outline of its face and not the rim of a hole: its own sum is above zero. It need not be the first contour.
+    pub fn is_outline(&self) -> bool {
+        self.sum() > 0
+    }
 }

@@ -55,27 +55,72 @@ fn pieces() {
     let mut sums = [OLD; 4];
     row(b"one pixel, not painted  ", plain(1, 1, 1), &[7], &mut sums);
     let mut sums = [OLD; 4];
-    row(b"three pieces            ", plain(3, 1, 2), &[0, 1, 0], &mut sums);
+    row(
+        b"three pieces            ",
+        plain(3, 1, 2),
+        &[0, 1, 0],
+        &mut sums,
+    );
     let mut sums = [OLD; 4];
-    row(b"a checkerboard          ", plain(2, 2, 2), &[0, 1, 1, 0], &mut sums);
+    row(
+        b"a checkerboard          ",
+        plain(2, 2, 2),
+        &[0, 1, 1, 0],
+        &mut sums,
+    );
 }
 
 fn holes() {
     let ring = [0, 0, 0, 0, 1, 0, 0, 0, 0];
     let mut sums = [OLD; 4];
-    row(b"a hole with a piece     ", plain(3, 3, 2), &ring, &mut sums);
+    row(
+        b"a hole with a piece     ",
+        plain(3, 3, 2),
+        &ring,
+        &mut sums,
+    );
     let waste = [0, 0, 0, 0, 7, 0, 0, 0, 0];
     let mut sums = [OLD; 4];
-    row(b"a hole with scrap       ", plain(3, 3, 2), &waste, &mut sums);
+    row(
+        b"a hole with scrap       ",
+        plain(3, 3, 2),
+        &waste,
+        &mut sums,
+    );
     let panel = [0, 0, 0, 0, 0, 1, 2, 0, 0, 0, 0, 0];
     let mut sums = [OLD; 4];
-    row(b"one hole for two        ", plain(4, 3, 3), &panel, &mut sums);
+    row(
+        b"one hole for two        ",
+        plain(4, 3, 3),
+        &panel,
+        &mut sums,
+    );
     let outside = lattice::OUTSIDE;
     let corner = [
-        0, outside, outside, outside, outside, 0, 0, 0, outside, 0, 1, 0, outside, 0, 0, 0,
+        0,
+        outside,
+        outside,
+        outside,
+        outside,
+        0,
+        0,
+        0,
+        outside,
+        0,
+        1,
+        0,
+        outside,
+        0,
+        0,
+        0,
     ];
     let mut sums = [OLD; 4];
-    row(b"joined at a corner      ", plain(4, 4, 2), &corner, &mut sums);
+    row(
+        b"joined at a corner      ",
+        plain(4, 4, 2),
+        &corner,
+        &mut sums,
+    );
 }
 
 // Faces stand by region and then by island: the first piece on the map is the last face.
@@ -85,7 +130,12 @@ fn order() {
     row(b"in face order           ", plain(3, 2, 3), &map, &mut sums);
     let apart = [1, 1, 0, 0, 0, 0, 1, 0, 0];
     let mut sums = [OLD; 4];
-    row(b"equal labels apart      ", plain(3, 3, 2), &apart, &mut sums);
+    row(
+        b"equal labels apart      ",
+        plain(3, 3, 2),
+        &apart,
+        &mut sums,
+    );
 }
 
 // Two unpainted labels side by side, and no cut between them: the sums are the same.
@@ -105,13 +155,28 @@ fn modes() {
 
 fn refusals() {
     let mut sums = [OLD; 2];
-    row(b"a side too long         ", plain(16385, 0, 1), &[], &mut sums);
+    row(
+        b"a side too long         ",
+        plain(16385, 0, 1),
+        &[],
+        &mut sums,
+    );
     let mut sums = [OLD; 2];
     row(b"a label too few         ", plain(2, 1, 2), &[0], &mut sums);
     let mut sums = [OLD; 2];
-    row(b"a work store too short  ", plain(5, 4, 1), &[0; 20], &mut sums);
+    row(
+        b"a work store too short  ",
+        plain(5, 4, 1),
+        &[0; 20],
+        &mut sums,
+    );
     let mut sums = [OLD; 2];
-    row(b"three pieces, two sums  ", plain(3, 1, 2), &[0, 1, 0], &mut sums);
+    row(
+        b"three pieces, two sums  ",
+        plain(3, 1, 2),
+        &[0, 1, 0],
+        &mut sums,
+    );
     let mut sums = [OLD; 0];
     row(b"one pixel, no sum       ", plain(1, 1, 1), &[0], &mut sums);
     let mut sums = [OLD; 0];
