@@ -35,19 +35,19 @@ use Rattle.assemble.specs.Drawn.{Drawn, Pointed, Written}
 use Rattle.assemble.proofs.FirstSteps.{first-forward, first-back}
 use Rattle.assemble.proofs.Points.{step-is, first-x, first-y, second-x, second-y, last-points}
 
-back-number : (d : Dir) → (code d % 4 + 2 * 1) % 4 ≡ code (backOf d)
+pub back-number : (d : Dir) → (code d % 4 + 2 * 1) % 4 ≡ code (backOf d)
 back-number N = refl
 back-number E = refl
 back-number S = refl
 back-number W = refl
 
-whole-number : (d : Dir) → (code d % 4 + 2 * 0) % 4 ≡ code d
+pub whole-number : (d : Dir) → (code d % 4 + 2 * 0) % 4 ≡ code d
 whole-number N = refl
 whole-number E = refl
 whole-number S = refl
 whole-number W = refl
 
-out-word : (ss : List (List Dart)) (x y : ℕ) (d : Dir) → getD (nodeRecord ss (x, y)) (2 + code d) 0 ≡ outEntry ss (dart x y d)
+pub out-word : (ss : List (List Dart)) (x y : ℕ) (d : Dir) → getD (nodeRecord ss (x, y)) (2 + code d) 0 ≡ outEntry ss (dart x y d)
 unfolding nodeRecord
 out-word ss x y N = refl
 out-word ss x y E = refl
@@ -55,7 +55,7 @@ out-word ss x y S = refl
 out-word ss x y W = refl
 
 -- THE PARITY of a reference: what holds of 2 i and of 2 i + 1 holds of all
-by-side : (Q : ℕ → Type 0) (r : ℕ) → Q (2 * (r / 2)) → Q (suc (2 * (r / 2))) → Q r
+pub by-side : (Q : ℕ → Type 0) (r : ℕ) → Q (2 * (r / 2)) → Q (suc (2 * (r / 2))) → Q r
 by-side Q r p q = go (ℕ-discrete (r % 2) 0)
   where
     go : Dec (r % 2 ≡ 0) → Q r
@@ -66,7 +66,7 @@ leads : (P : Picture) (a : Dart) → nodeAt (nodes P) 0 (turned (turned a) .x) (
 unfolding turned
 leads P a = refl
 
-heads : (a : Dart) → code (backOf (a .d)) ≡ code (turned a .d)
+pub heads : (a : Dart) → code (backOf (a .d)) ≡ code (turned a .d)
 unfolding turned
 heads a = refl
 

@@ -1,6 +1,6 @@
 -- The demands for the call `assemble`: 15 exactly where the graph does not describe the map, every store settled, and no two pictures share a cut list.
 use Prim.Native.Nat.{ℕ, zero, suc, pred, _+_, _*_, _<_, _≤_}
-use mathlib.Core.Bool.{Bool, true, false, not}
+use mathlib.Core.Bool.{Bool, true, false}
 use mathlib.Core.Path.{_≡_, refl, sym, ap, ap₂, _∙_, subst₂}
 use mathlib.Core.List.{List, [], _∷_, _++_, map}
 use native.Mathlib.Omega.{arith}
@@ -11,7 +11,7 @@ use Rattle.rules.specs.Lists.{flat, upto}
 use Rattle.rules.specs.Picture.{Picture, picture, northwest, dart}
 use Rattle.rules.specs.Face.{faces}
 use Rattle.rules.specs.Records.{contoursOf, contourWords, faceWords}
-use Rattle.rules.specs.Calls.{Map, pictureOf, Accepted, labelAt, CutList, cuts, cutList, Answer, counted, Check, firstHit, mapChecks, short, faceChecks, early, Outcome, call}
+use Rattle.rules.specs.Calls.{Map, pictureOf, Accepted, labelAt, CutList, cuts, cutList, Answer, counted, Check, firstHit, mapChecks, short, faceChecks, early, Outcome}
 use Rattle.rules.proofs.Ground.Lists.{map-same, upto-in}
 use Rattle.rules.proofs.Lattice.Frame.{Framed, picture-framed}
 use Rattle.rules.proofs.Islands.Pixels.{label-is}

@@ -1,5 +1,4 @@
 -- `workbench::check_given` meets its contract.
-use borrow.Author.Tests.{not-false}
 use Rattle.rules.specs.Calls.{firstHit}
 use Rattle.workbench.proofs.check_given.Statement.{statement}
 use Rattle.workbench.proofs.check_given.Tie as tie
