@@ -83,5 +83,5 @@ given-room m b g A =
     let ts = faces P (segments P) (m .paints) in (
       same-listed-references F D T (m .paints) b,
       length-contours 0 (contoursOf fs) ∙ ap (λ n. 2 * n) (same-listed-contours F D T (m .paints) b) ∙ sym (length-contours 0 (contoursOf ts)),
-      length-faces 0 fs ∙ ap (λ n. 3 * n) (same-faces F D T (m .paints) b) ∙ sym (length-faces 0 ts),
+      length-faces (P .w) 0 fs ∙ ap (λ n. 5 * n) (same-faces F D T (m .paints) b) ∙ sym (length-faces (P .w) 0 ts),
     )

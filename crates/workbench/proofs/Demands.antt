@@ -10,7 +10,7 @@ use lib.Seq.{take-at}
 use Rattle.rules.specs.Lists.{flat, upto}
 use Rattle.rules.specs.Picture.{Picture, picture, northwest, dart}
 use Rattle.rules.specs.Face.{faces}
-use Rattle.rules.specs.Records.{contoursOf, contourWords, faceWords}
+use Rattle.rules.specs.Records.{contoursOf, contourWords, faceWords, unplaced}
 use Rattle.rules.specs.Calls.{Map, pictureOf, Accepted, labelAt, CutList, cuts, cutList, Answer, counted, Check, firstHit, mapChecks, short, faceChecks, early, Outcome}
 use Rattle.rules.proofs.Ground.Lists.{map-same, upto-in}
 use Rattle.rules.proofs.Lattice.Frame.{Framed, picture-framed}
@@ -62,7 +62,7 @@ module _ (m : Map) (g : Given) (work rs cs fs : List ℕ) where
   unfolding firstHit faceChecks
   other-number false e = refl
   other-number true e =
-      absurd (go (short 1 rs (cutList m .references)) (short 2 cs (cutList m .contours)) (short 3 fs (cutList m .faces)) e)
+      absurd (go (short 1 rs (cutList m .references)) (short 2 cs (cutList m .contours)) (short 5 fs (cutList m .faces)) e)
     where
       go : (p q r : Bool) → _≡_ {A = ℕ} (elim p [ true ↦ 7 | false ↦ elim q [ true ↦ 8 | false ↦ elim r [ true ↦ 9 | false ↦ 0 ] ] ]) 15 → ⊥
       go true q r e = omega arith
@@ -93,7 +93,7 @@ module _ (m : Map) (g : Given) (work rs cs fs : List ℕ) where
       from q = number ∙ late (q .0) ∙ refused (accepts g P) (λ e. q .1 (accepts-true g P F e))
 
 -- DEMAND 3. Two calls that answer 0 over accepted graphs of maps of equal sides and paint count, with the same points of every segment and the same
--- faces with their contours and references, were given maps that at each pixel carry the same painted label, or none.
+-- faces, but for their first pixels, with their contours and references, were given maps that at each pixel carry the same painted label, or none.
 
 -- a call that answered 0: what it was given, what it answered and left
 pub record Benched (m : Map) : Type 0 where
@@ -161,15 +161,15 @@ module _ {m : Map} (k : Benched m) where
         length-contours 0 (contoursOf (faces (pictureOf m) (segmentsIn given) (m .paints))),
       ))
 
-  pub faces-left : take (3 * k .answer .faces) (k .faces′) ≡ givenList m given .faces
+  pub faces-left : take (5 * k .answer .faces) (k .faces′) ≡ givenList m given .faces
   unfolding counted givenList cuts
   faces-left =
-      front (3 * k .answer .faces) (givenList m given .faces) (k .faces) (ap (λ o. getD (o .stores) 3 []) finished)
+      front (5 * k .answer .faces) (givenList m given .faces) (k .faces) (ap (λ o. getD (o .stores) 3 []) finished)
       (omega (
         arith,
         ap (λ o. o .answer .faces) finished,
         given-room m (k .word) given graph-accepted .2,
-        length-faces 0 (faces (pictureOf m) (segmentsIn given) (m .paints)),
+        length-faces (pictureOf m .w) 0 (faces (pictureOf m) (segmentsIn given) (m .paints)),
       ))
 
 -- the same points of every segment
@@ -213,11 +213,11 @@ module _ {g h : Given} (e : SamePoints g h) where
       map-same (stepsIn g) (stepsIn h) (upto (g .segmentCount) 0) (λ i j. segment-same i (omega (arith, upto-in (g .segmentCount) 0 i j .1)))
       ∙ ap (λ n. map (stepsIn h) (upto n 0)) (e .many)
 
--- the words that the two leave, up to their counts
+-- the words that the two leave, up to their counts, but for the faces' first pixels
 pub record SameFaces {m n : Map} (k : Benched m) (j : Benched n) : Type 0 where
   pub references : take (k .answer .references) (k .references′) ≡ take (j .answer .references) (j .references′)
   pub contours : take (2 * k .answer .contours) (k .contours′) ≡ take (2 * j .answer .contours) (j .contours′)
-  pub faces : take (3 * k .answer .faces) (k .faces′) ≡ take (3 * j .answer .faces) (j .faces′)
+  pub faces : unplaced (take (5 * k .answer .faces) (k .faces′)) ≡ unplaced (take (5 * j .answer .faces) (j .faces′))
 
 -- THE DEMAND
 pub unshared : {m n : Map} (k : Benched m) (j : Benched n) → m .width ≡ n .width → m .height ≡ n .height → m .paints ≡ n .paints
@@ -238,7 +238,7 @@ unshared {m} {n} k j ew eh ep e s x y hx hy =
     (label-is (n .width) (n .height) (n .bound) (n .labels) (map-accepted j .size) x y (rw (← ew) hx) (rw (← eh) hy))
     (same-labels (picture-framed (m .width) (m .height) (m .bound) (m .labels)) (picture-framed (n .width) (n .height) (n .bound) (n .labels))
     (described (segmented (graph-accepted k))) (described (segmented (graph-accepted j))) (k .word) (segments-same e)
-    (same-faces fs gs
+    (same-faces (P .w) (Q .w) fs gs
     (sym (references-left k) ∙ s .references ∙ references-left j ∙ ap (λ fs. flat (contoursOf fs)) q)
     (sym (contours-left k) ∙ s .contours ∙ contours-left j ∙ ap (λ fs. contourWords 0 (contoursOf fs)) q)
-    (sym (faces-left k) ∙ s .faces ∙ faces-left j ∙ ap (faceWords 0) q)) x y)
+    (ap unplaced (sym (faces-left k)) ∙ s .faces ∙ ap unplaced (faces-left j) ∙ ap (λ fs. unplaced (faceWords (Q .w) 0 fs)) q)) x y)

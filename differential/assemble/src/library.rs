@@ -120,7 +120,7 @@ extern "C" {
 }
 
 /// Words of a face record in the library, of which the Rust has the first three.
-pub const FACE: usize = 3;
+pub const FACE: usize = 5;
 
 /// Words of a record: nodes, segments, points, references, contours, faces.
 pub const WORDS: [usize; 6] = [RECORD[0], RECORD[1], RECORD[2], RECORD[3], RECORD[4], FACE];
