@@ -20,6 +20,9 @@ array-read-t18 c = search needs
 array-read-t21 : tie.Need-array-read-t21
 array-read-t21 c = search needs
 
+array-read-t24 : tie.Need-array-read-t24
+array-read-t24 c = search needs
+
 cast-area : tie.Need-cast-area
 cast-area c = search needs
 
@@ -62,6 +65,7 @@ map-spec =
     array-read-t15
     array-read-t18
     array-read-t21
+    array-read-t24
     cast-area
     cast-area-2
     area-requires
