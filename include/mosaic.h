@@ -33,6 +33,9 @@
  *   3      the work store is shorter than 8 x (width+1) x (height+1) words
  *   4 5 6  the node, segment, point store holds fewer records than the map needs     (graph and whole)
  *   7 8 9  the reference, contour, face store likewise                               (whole)
+ *   13     the store for a file, or for what is kept of it, is short                 (job files)
+ *   14     the bytes are not a job file                                              (job files)
+ *   19     the paint count is above 65535                                            (job files)
  *
  *                        after 1, 2, 3     after 4 to 9              after 0
  *   counts               all 0             the map's true counts     the map's true counts
@@ -87,7 +90,10 @@ enum mosaic_number {
     MOSAIC_SHORT_POINTS = 6,
     MOSAIC_SHORT_REFERENCES = 7,
     MOSAIC_SHORT_CONTOURS = 8,
-    MOSAIC_SHORT_FACES = 9
+    MOSAIC_SHORT_FACES = 9,
+    MOSAIC_SHORT_FILE = 13,
+    MOSAIC_NO_JOB_FILE = 14,
+    MOSAIC_TOO_MANY_PAINTS = 19
 };
 
 enum mosaic_direction { MOSAIC_NORTH = 0, MOSAIC_EAST = 1, MOSAIC_SOUTH = 2, MOSAIC_WEST = 3 };
@@ -174,6 +180,43 @@ void mosaic_whole(uint32_t mode, uint32_t width, uint32_t height, uint32_t paint
                   uint32_t *contours, size_t contours_len,
                   uint32_t *faces, size_t faces_len,
                   mosaic_answer *answer);
+
+/*
+ * JOB FILES. A cut list as bytes, to pass on. A record is a body length in bytes (4 bytes), a kind (2 bytes) and the body in 32-bit words,
+ * all little-endian; nothing is aligned.
+ *
+ *   kind 1   width, height, paint count; it comes first, and once
+ *   kind 2   one segment's points, x then y
+ *   kind 3   one face: region, x and y of its first pixel, contour count, then for each contour its reference count and its references
+ *
+ * Segments come before faces, each in order. mosaic_write makes the file of a map: it does what mosaic_whole does in the mode MOSAIC_NO_WASTE,
+ * then asks 19, then 13 (fewer bytes lent than the file has), all of it before any store is written: after 4 to 9, 19 and 13 the answer has the
+ * counts, the work words are 0 and every other store is untouched. After 0 the file stands at the front of its store, and `length` is its
+ * length in bytes, 18 + 6 x segments + 8 x points + 22 x faces + 4 x (contours + references); after a refusal `length` is 0. It is a 64-bit
+ * number, since the file of a large map has more than 2^32 bytes. The file store is lent in bytes and need not be aligned.
+ *
+ * mosaic_salvage keeps the records of a file before the first that is cut short or breaks the form: a wrong kind or place, a body that does
+ * not fit its counts, a segment of under two points, a point off the map, neighbouring points not one unit apart, an unpainted region, a
+ * reference to a segment that is not kept. What is kept is copied unchanged to the front of `out`, and a second run drops nothing of it.
+ * The answer is three 64-bit words: the number, the length kept, and the kind of the first record dropped (0 for a tail of under six bytes and
+ * for none). 14: the first record is not a whole kind 1 with sides up to 16384 and a paint count up to 65535; then 13: `out` is shorter than
+ * what is kept (`file_len` bytes are always enough). After either nothing is written, and both numbers are 0. `out` does not overlap `file`.
+ */
+void mosaic_write(uint32_t width, uint32_t height, uint32_t paints,
+                  const uint32_t *labels, size_t labels_len,
+                  uint32_t *work, size_t work_len,
+                  uint32_t *nodes, size_t nodes_len,
+                  uint32_t *segments, size_t segments_len,
+                  uint32_t *points, size_t points_len,
+                  uint32_t *references, size_t references_len,
+                  uint32_t *contours, size_t contours_len,
+                  uint32_t *faces, size_t faces_len,
+                  uint8_t *file, size_t file_len,
+                  mosaic_answer *answer, uint64_t *length);
+
+void mosaic_salvage(const uint8_t *file, size_t file_len,
+                    uint8_t *out, size_t out_len,
+                    uint64_t answer[3]);
 
 #ifdef __cplusplus
 }

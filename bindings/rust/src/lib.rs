@@ -22,6 +22,7 @@
 
 mod cutter;
 pub mod ffi;
+pub mod jobs;
 mod list;
 
 pub use cutter::{cut, Cutter, Map, Refusal};

@@ -77,7 +77,7 @@ fn short(number: u32, held: usize, needed: u32) -> u32
 }
 
 // Of two checks, in this order.
-fn or_else(first: u32, second: u32) -> u32
+pub fn or_else(first: u32, second: u32) -> u32
     ensures { λ r. ⌜ r ≡ orElse first second ⌝ }
 {
     if first != 0 {
@@ -113,7 +113,7 @@ fn check_faces(a: Answer, references: usize, contours: usize, faces: usize) -> u
 }
 
 // Of the words lent for all six: 4 to 9.
-fn check_all(
+pub fn check_all(
     a: Answer,
     nodes: usize,
     segments: usize,

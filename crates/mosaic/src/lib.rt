@@ -1,4 +1,6 @@
 // The library for C programs: each function is one of the calls. A slice is a pointer and a length, the answer a pointer to eight words.
+pub mod job;
+
 use calls::Answer;
 use lattice::Size;
 ghost use mathlib.Core.Path.{_≡_};
