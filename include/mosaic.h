@@ -37,11 +37,13 @@
  *   9      the store of sums holds fewer numbers than the map has faces              (veneer)
  *   11     the layers, their masks or the labels are not whole; asked after 1        (layers)
  *   12     before a merge, a label is neither MOSAIC_OUTSIDE nor painted             (merge, after 2 and before 3)
- *   13     the listing store is shorter than the listing                             (listing)
+ *   13     the store for a listing, a file or what is kept of one is short           (listing, write, salvage)
+ *   14     the bytes do not start as a job file does                                 (salvage)
  *   15     the graph handed in does not describe the map; asked after 3, before 7    (assemble)
  *   16     a side of the sheet is not above 0 (or is no number), or is above 3000    (sheet_whole, after 9)
  *   17     before a merge, the colours have another length than 3 x paints bytes,
  *          or the region store is shorter than 12 x paints words                     (merge, after 3)
+ *   19     the paint count is above 65535                                            (write, after 9 and before 13)
  *
  *                        after 1, 2, 3     after 4 to 9, and 16      after 0
  *   counts               all 0             the map's true counts     the map's true counts
@@ -104,12 +106,16 @@ enum mosaic_number {
     MOSAIC_SHORT_REFERENCES = 7,
     MOSAIC_SHORT_CONTOURS = 8,
     MOSAIC_SHORT_FACES = 9,
-    MOSAIC_BAD_SHEET = 16,
-    MOSAIC_UNPAINTED_LABEL = 12,
-    MOSAIC_MERGE_STORES = 17,
+    MOSAIC_OUTSIDE_POINTS = 10,
     MOSAIC_LAYERS_NOT_WHOLE = 11,
+    MOSAIC_UNPAINTED_LABEL = 12,
+    MOSAIC_SHORT_OUTPUT = 13,
+    MOSAIC_NO_JOB_FILE = 14,
     MOSAIC_STRANGE_GRAPH = 15,
-    MOSAIC_SHORT_LISTING = 13
+    MOSAIC_BAD_SHEET = 16,
+    MOSAIC_MERGE_STORES = 17,
+    MOSAIC_SHORT_ANSWERS = 18,
+    MOSAIC_TOO_MANY_PAINTS = 19
 };
 
 enum mosaic_direction { MOSAIC_NORTH = 0, MOSAIC_EAST = 1, MOSAIC_SOUTH = 2, MOSAIC_WEST = 3 };
@@ -347,6 +353,43 @@ void mosaic_veneer(uint32_t mode, uint32_t width, uint32_t height, uint32_t pain
                    uint32_t *work, mosaic_length work_len,
                    int64_t *sums, mosaic_length sums_len,
                    mosaic_answer *answer);
+
+/*
+ * JOB FILES. A cut list as bytes, to pass on. A record is a body length in bytes (4 bytes), a kind (2 bytes) and the body in 32-bit words,
+ * all little-endian; nothing is aligned.
+ *
+ *   kind 1   width, height, paint count; it comes first, and once
+ *   kind 2   one segment's points, x then y
+ *   kind 3   one face: region, x and y of its first pixel, contour count, then for each contour its reference count and its references
+ *
+ * Segments come before faces, each in order. mosaic_write makes the file of a map: it does what mosaic_whole does in the mode MOSAIC_NO_WASTE,
+ * then asks 19, then 13 (fewer bytes lent than the file has), all of it before any store is written: after 4 to 9, 19 and 13 the answer has the
+ * counts, the work words are 0 and every other store is untouched. After 0 the file stands at the front of its store, and `length` is its
+ * length in bytes, 18 + 6 x segments + 8 x points + 22 x faces + 4 x (contours + references); after a refusal `length` is 0. It is a 64-bit
+ * number, since the file of a large map has more than 2^32 bytes. The file store is lent in bytes and need not be aligned.
+ *
+ * mosaic_salvage keeps the records of a file before the first that is cut short or breaks the form: a wrong kind or place, a body that does
+ * not fit its counts, a segment of under two points, a point off the map, neighbouring points not one unit apart, an unpainted region, a
+ * reference to a segment that is not kept. What is kept is copied unchanged to the front of `out`, and a second run drops nothing of it.
+ * The answer is three 64-bit words: the number, the length kept, and the kind of the first record dropped (0 for a tail of under six bytes and
+ * for none). 14: the first record is not a whole kind 1 with sides up to 16384 and a paint count up to 65535; then 13: `out` is shorter than
+ * what is kept (`file_len` bytes are always enough). After either nothing is written, and both numbers are 0. `out` does not overlap `file`.
+ */
+void mosaic_write(uint32_t width, uint32_t height, uint32_t paints,
+                  const uint32_t *labels, mosaic_length labels_len,
+                  uint32_t *work, mosaic_length work_len,
+                  uint32_t *nodes, mosaic_length nodes_len,
+                  uint32_t *segments, mosaic_length segments_len,
+                  uint32_t *points, mosaic_length points_len,
+                  uint32_t *references, mosaic_length references_len,
+                  uint32_t *contours, mosaic_length contours_len,
+                  uint32_t *faces, mosaic_length faces_len,
+                  uint8_t *file, mosaic_length file_len,
+                  mosaic_answer *answer, uint64_t *length);
+
+void mosaic_salvage(const uint8_t *file, mosaic_length file_len,
+                    uint8_t *out, mosaic_length out_len,
+                    uint64_t answer[3]);
 
 #ifdef __cplusplus
 }

@@ -24,6 +24,7 @@ mod assemble;
 mod cutter;
 pub mod ffi;
 pub mod layers;
+pub mod jobs;
 mod list;
 pub mod listing;
 mod merge;

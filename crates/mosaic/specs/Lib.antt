@@ -1,1 +1,3 @@
 pub mod Moved
+pub mod Mode
+pub mod JobWords
