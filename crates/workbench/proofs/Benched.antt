@@ -7,7 +7,7 @@ use mathlib.Core.List.{List, [], _∷_}
 use native.Mathlib.Omega.{arith}
 use lib.ListN.{length, replicate}
 use lib.Seq.{sets}
-use Rattle.rules.specs.Picture.{Picture, Dart, OUTSIDE}
+use Rattle.rules.specs.Picture.{Picture, Dart, OUTSIDE, picture}
 use Rattle.rules.specs.Graph.{nodes, cracks}
 use Rattle.rules.specs.Calls.{Map, CutList, cuts, cutList, graphList, counted, refused, Check, firstHit, faceChecks}
 use Rattle.rules.proofs.Tracing.Partition.{describes}
@@ -114,7 +114,7 @@ module _ (s : Size) (ls : List ℕ) (g : Given) where
 
         pub bench-done : n ≡ 0 → s .paints ≤ OUTSIDE → {work₀ rs′ cs′ fs′ : List ℕ} {d : Done} → Assembled s ls (segmentsIn g) work₀ rs cs fs d work₁ rs′ cs′ fs′
             → outcome (withNumber n a) (work₂ ∷ rs′ ∷ cs′ ∷ fs′ ∷ []) ≡ assemble m g work rs cs fs
-        unfolding assemble givenList cuts
+        unfolding assemble givenList cuts picture
         bench-done h b {rs′} {cs′} {fs′} q =
             let zero : firstHit more ≡ 0 = sym e ∙ h in
             let room = given-room m b g (accepts-true g P (framed s ls) (number-accepts zero)) in
