@@ -7,12 +7,12 @@ use mathlib.Core.List.{List, [], _∷_, map, List·Memᴰ as In, List·Memᴰ·h
 use native.Mathlib.Omega.{arith}
 use Rattle.rules.specs.Lists.{flat}
 use Rattle.rules.specs.Picture.{Picture, OUTSIDE, N, S, Dart, dart, sameDart, leftAt, left, right, crack}
-use Rattle.rules.specs.Face.{steps, Face, faces}
+use Rattle.rules.specs.Face.{steps, sides, Face, faces}
 use Rattle.rules.specs.Describes.{Describes}
 use Rattle.rules.proofs.Lattice.Frame.{Framed}
 use Rattle.rules.proofs.Lattice.Darts.{same-path, same-refl, crack-differs, differs-crack, uncrack-same}
 use Rattle.rules.proofs.Ground.Lists.{in-flat, flat-in}
-use Rattle.rules.proofs.Contours.Sides.{sides, sides-in, in-sides, side-of}
+use Rattle.rules.proofs.Contours.Sides.{sides-in, in-sides, side-of}
 use Rattle.rules.proofs.Contours.Painted.{painted}
 use Rattle.rules.proofs.Faces.Faced.{faced}
 use Rattle.jobfile.specs.Painted.{Patch, has, bordered, regionBy, paintAt}
