@@ -13,7 +13,7 @@ use borrow.Author.Tests.{ltb-false, ne-eqb}
 use Rattle.rules.specs.Picture.{Picture, OUTSIDE}
 use Rattle.rules.specs.Graph.{segments}
 use Rattle.rules.specs.Face.{islands, contours, face, faces}
-use Rattle.rules.specs.Calls.{Map, Accepted, CutList, cutList, refused, Check, firstHit, call}
+use Rattle.rules.specs.Calls.{Map, Accepted, cutList, refused, Check, firstHit, call}
 use Rattle.rules.proofs.Ground.Lists.{at-map}
 use Rattle.rules.proofs.Ground.Pigeonhole.{rearranged-length}
 use Rattle.rules.proofs.Tracing.Partition.{describes}

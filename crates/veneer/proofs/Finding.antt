@@ -16,7 +16,7 @@ use mir.ValLaws.{toZ-ofZ}
 use borrow.Author.Tests.{eq-eqb, ne-eqb}
 use Rattle.rules.specs.Lists.{flat, Distinct}
 use Rattle.rules.specs.Picture.{Picture, picture, OUTSIDE, E, Dart, dart, left, crack}
-use Rattle.rules.specs.Face.{labelOf, island, noDart, beside}
+use Rattle.rules.specs.Face.{island, noDart, beside}
 use Rattle.rules.proofs.Ground.Lists.{in-at, in-flat}
 use Rattle.rules.proofs.Lattice.Frame.{Framed}
 use Rattle.rules.proofs.Lattice.Darts.{crack-y}
@@ -24,16 +24,14 @@ use Rattle.rules.proofs.Islands.Beside.{beside-in, beside-label}
 use Rattle.rules.proofs.Contours.Loops.{loopOf, the-loop, loop-cracks, loop-short, IsPainted, sides-low}
 use Rattle.rules.proofs.Contours.Counts.{refsOf}
 use Rattle.rules.proofs.Faces.FirstPixels.{First, first-in, in-firsts, firsts-distinct, first-of}
-use Rattle.store.specs.Words.{Kept}
 use Rattle.lattice.specs.declared.Size.{Size}
 use Rattle.lattice.specs.declared.Walker.{Walker}
 use Rattle.lattice.specs.Size.{Map, Corner, pic}
 use Rattle.lattice.specs.Planes.{plane, place}
-use Rattle.lattice.specs.Walker.{dartOf}
 use Rattle.lattice.proofs.Frame.{framed}
 use Rattle.lattice.proofs.Planes.{fuel-low}
 use Rattle.face.specs.declared.contours.Found.{Found}
-use Rattle.face.specs.Contours.{Starts, Scanned}
+use Rattle.face.specs.Contours.{Scanned}
 use Rattle.face.proofs.contours.Scanning.{skip, skip-loops, add, add-loops}
 use Rattle.face.proofs.contours.Finding.{in-or}
 use Rattle.assemble.specs.Words.{Flanked, pixelIn}

@@ -5,7 +5,7 @@ use mathlib.Core.Logic.{inl}
 use mathlib.Core.List.{List, List·Memᴰ as In}
 use native.Mathlib.Omega.{arith}
 use lib.IntN.{ℤ}
-use lib.ListN.{length, getD}
+use lib.ListN.{getD}
 use Rattle.rules.specs.Lists.{flat}
 use Rattle.rules.specs.Picture.{picture, E, dart}
 use Rattle.rules.proofs.Ground.Lists.{in-at}

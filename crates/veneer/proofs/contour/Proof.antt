@@ -3,7 +3,7 @@ use mathlib.Core.Path.{sym, ap, _∙_}
 use mathlib.Core.Logic.{⊎-elim}
 use native.Mathlib.Omega.{arith}
 use mir.Syntax.{w64}
-use mir.Val.{toZ, ofZ}
+use mir.Val.{toZ}
 use Rattle.rules.specs.Picture.{one}
 use Rattle.lattice.proofs.Ways.{edge-corner}
 use Rattle.face.proofs.contours.Turning.{turn-way}

@@ -1,6 +1,5 @@
 -- `measure` meets its contract.
 use Prim.Native.Nat.{_≤_}
-use mathlib.Core.Path.{_∙_}
 use native.Mathlib.Omega.{arith}
 use borrow.Author.Needs.{needs}
 use Rattle.veneer.proofs.Facing.{pages, unsorted, numberable, fillable, summable, faces-measured}
