@@ -1,9 +1,9 @@
 -- One pixel touched up (docs/RULES.md, #114): a painted island that neither contains the pixel nor touches it stays, with its label and contours.
-use Prim.Native.Nat.{ℕ, suc, _+_, _*_, _/_, _%_, _<_, _≤_}
+use Prim.Native.Nat.{ℕ, suc, _+_, _*_, _/_, _%_, _≤_}
 use mathlib.Core.Path.{_≡_, refl, sym, ap, ap₂, _∙_, subst, subst₃}
 use mathlib.Core.List.{List, List·Memᴰ as In}
 use native.Mathlib.Omega.{arith}
-use lib.ListN.{length, getD}
+use lib.ListN.{length}
 use Rattle.rules.specs.Picture.{Picture, picture, seen, OUTSIDE, Dart}
 use Rattle.rules.specs.Graph.{segments}
 use Rattle.rules.specs.Face.{labelOf, Face, faces}

@@ -7,7 +7,7 @@ use mathlib.Core.List.{List, [], _∷_, _++_, map, List·Memᴰ as In}
 use native.Mathlib.Omega.{arith}
 use lib.Dec.{ltb, eqb}
 use lib.ListN.{length, getD, replicate, drop}
-use Rattle.rules.specs.Lists.{keep, flat, among}
+use Rattle.rules.specs.Lists.{flat, among}
 use Rattle.rules.specs.Picture.{picture, seen, OUTSIDE}
 use Rattle.rules.specs.Graph.{segments}
 use Rattle.rules.specs.Face.{faces}

@@ -2,7 +2,6 @@
 use Prim.Native.Nat.{ℕ, suc, _*_, _/_, _%_, _<_, _≤_}
 use mathlib.Core.Path.{_≡_}
 use mathlib.Core.Logic.{_↔_}
-use mathlib.Core.List.{List}
 use lib.ListN.{getD}
 use Rattle.rules.specs.Graph.{segments}
 use Rattle.rules.specs.Face.{firsts, Face}

@@ -1,5 +1,5 @@
 -- The word of a step east or south, and back.
-use Prim.Native.Nat.{suc, _+_, _-_, _/_, _%_, _<_, _≤_}
+use Prim.Native.Nat.{suc, _+_, _/_, _%_, _<_, _≤_}
 use mathlib.Core.Path.{_≡_, ap, _∙_}
 use mathlib.Core.Logic.{_⊎_, inl, inr}
 use native.Mathlib.Omega.{arith}
