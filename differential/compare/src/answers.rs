@@ -1,7 +1,8 @@
 //! The Rust's answers as data, for the program `replay` to run through the library where no Rust is at hand.
 //!
 //! A word is coded in one byte where it is below 254; 254 is 4294967295; 255 stands before four bytes, the lowest first. The data is the
-//! number of maps, then for each its width, height, paint count, bound and labels, the seven counts, and the words of the six stores.
+//! number of maps, then for each its width, height, paint count, bound and labels, the seven counts, and the words of the six stores. The
+//! last two words of a face, its first pixel, are from the oracle's own search for islands.
 
 use std::error::Error;
 use std::fs;
