@@ -7,16 +7,6 @@ use Rattle.jobs.specs.Writes.{sizeOf}
 use Rattle.jobwrite.proofs.Answering.{counts, number-late, early-answered, late-answered, fine-answered}
 use Rattle.jobwrite.proofs.write.Statement.{statement}
 use Rattle.jobwrite.proofs.write.Tie as tie
-use Rattle.jobwrite.proofs.write.Reads as reads
-use Rattle.jobwrite.proofs.write.Lts as lts
-use Rattle.calls.proofs.check_all.Reads as check-all-reads
-use Rattle.calls.proofs.or_else.Reads as or-else-reads
-use Rattle.calls.proofs.size.Reads as size-reads
-use Rattle.calls.proofs.whole.Reads as whole-reads
-use Rattle.jobs.proofs.write.check_file.Reads as check-file-reads
-use Rattle.jobs.proofs.write.file_size.Reads as file-size-reads
-use Rattle.jobs.proofs.write.put_file.Reads as put-file-reads
-use Rattle.jobwrite.proofs.job.Reads as job-reads
 
 size-requires : tie.Need-size-requires
 size-requires c κs = search needs
