@@ -1,11 +1,11 @@
 // The library for C programs: each function is one of the calls. A slice is a pointer and a length, the answer a pointer to eight words.
 pub mod bench;
 pub mod flatten;
+pub mod job;
 pub mod listings;
 pub mod measuring;
 pub mod merging;
 pub mod on_sheet;
-pub mod job;
 
 use calls::Answer;
 ghost use mathlib.Core.Path.{_≡_};
