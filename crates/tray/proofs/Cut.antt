@@ -59,9 +59,8 @@ part-front k n xs ys h = ap (take n) (drop-append-le k xs ys (omega (arith, h)))
 single-front : (front more more′ : List ℕ) (t : Size) (start : ℕ) → start + pixels t ≤ length front → (work : List ℕ) (s : Stores)
     → single t start (front ++ more) work s ≡ single t start (front ++ more′) work s
 single-front front more more′ t start h work s =
-    let own-part = λ (xs : List ℕ). part-front start (pixels t) front xs h in
     single-call t start (front ++ more) work s (omega (arith, h, length-append front more))
-    ∙ ap (λ (ls : List ℕ). call (mapOf t ls) work s) (own-part more ∙ sym (own-part more′))
+    ∙ ap (λ (ls : List ℕ). call (mapOf t ls) work s) (part-front start (pixels t) front more h ∙ sym (part-front start (pixels t) front more′ h))
     ∙ sym (single-call t start (front ++ more′) work s (omega (arith, h, length-append front more′)))
 
 run-front : (front more more′ : List ℕ) (ts : List Size) (start : ℕ) → start + total ts ≤ length front → (work : List ℕ) (s : Stores)
@@ -118,6 +117,9 @@ module _ (mode : ℕ) (maps maps′ front between back work : List ℕ) (s : Sto
     abbrev its : Outcome
     its = single t (total ts) whole-store (r .work) (r .left)
 
+    abbrev r′ : Run
+    r′ = run ts 0 (front ++ back) work s
+
     -- the maps behind it, without it
     abbrev v : Run
     v = run us (total ts) (front ++ back) (r .work) (r .left)
@@ -146,10 +148,7 @@ module _ (mode : ℕ) (maps maps′ front between back work : List ℕ) (s : Sto
         ap (λ (l : List Size). run l 0 (front ++ back) work s) list′ ∙ run-append ts us 0 (front ++ back) work s
         ∙ ap (λ (k : ℕ). behind (r′ .answers) (r′ .records) (run us k (front ++ back) (r′ .work) (r′ .left))) (zero-add (total ts))
         ∙ ap (λ (q : Run). behind (q .answers) (q .records) (run us (total ts) (front ++ back) (q .work) (q .left)))
-        (run-front front back (between ++ back) ts 0 (omega (arith, before-it, zero-add (total ts))) work s)
-      where
-        abbrev r′ : Run
-        r′ = run ts 0 (front ++ back) work s
+        (run-front front back (between ++ back) ts 0 (omega (arith, before-it)) work s)
 
     agree : Agree (run (t ∷ us) (total ts) whole-store (r .work) (r .left)) (record { answers = its .answer ∷ v .answers; records = v .records; work = v .work; left = v .left })
     agree =
