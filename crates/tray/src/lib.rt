@@ -1,6 +1,6 @@
 // A tray of maps: many small maps over one label store and one set of stores (docs/RULES.md, #108).
-use lattice::Size;
 use calls::Answer;
+use lattice::Size;
 ghost use mathlib.Core.Path.{_≡_};
 ghost use Prim.Native.Nat.{_+_, _*_, _≤_};
 ghost use lib.ListN.{length};
