@@ -30,6 +30,7 @@ pub mod listing;
 mod merge;
 pub mod sheet;
 mod veneer;
+pub mod tray;
 
 pub use assemble::{assemble, Graph, NotAssembled};
 pub use cutter::{cut, cut_in, Cutter, Map, Mode, Refusal};
@@ -40,3 +41,4 @@ pub use list::{
 pub use merge::{merge_similar, merge_words, Merged, Unmerged, REGION_WORDS};
 pub use sheet::{cut_on_sheet, Move, Moves, OnSheet, Sheet};
 pub use veneer::veneer;
+pub use tray::{tray, Tile};
