@@ -30,13 +30,13 @@ pub fn write(out: &mut dyn Write, pieces: &Pieces, scale: &Scale, stage: &Stage)
     }
     group(out, "0\nENDTAB\n0\nENDSEC\n0\nSECTION\n2\nENTITIES")?;
     let mut turns = Vec::new();
-    for (n, face) in pieces.faces().enumerate() {
+    for face in pieces.faces() {
         let name = format!("VENEER_{}", face.region().0);
         for contour in face.contours() {
             round(&contour, &mut turns);
             polyline(out, &name, &turns, true, &scale.x, &up)?;
         }
-        stage.at(n as u64);
+        stage.step();
     }
     for cut in pieces.cuts() {
         along(&cut, &mut turns);
@@ -44,6 +44,7 @@ pub fn write(out: &mut dyn Write, pieces: &Pieces, scale: &Scale, stage: &Stage)
             turns.pop();
         }
         polyline(out, "CUTS", &turns, cut.is_ring(), &scale.x, &up)?;
+        stage.step();
     }
     group(out, "0\nENDSEC\n0\nEOF")
 }

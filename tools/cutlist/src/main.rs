@@ -63,7 +63,7 @@ fn run(asked: &Arguments) -> Result<(), Failure> {
         warn(&picture);
     }
     if let Some(least) = asked.speckles {
-        speckles(&pieces, &scale, least);
+        speckles(&pieces, least);
     }
     write(asked, &cut, &pieces, &scale, progress)
 }
@@ -192,10 +192,10 @@ fn warn(picture: &Picture) {
 }
 
 /// Lists the small pieces; this is asked for, so --quiet does not stop it.
-fn speckles(pieces: &Pieces, scale: &Scale, least: u64) {
+fn speckles(pieces: &Pieces, least: u64) {
     let mut turns = Vec::new();
     for face in pieces.faces() {
-        let pixels = report::measure(&face, scale, &mut turns).pixels;
+        let pixels = report::measure(&face, &mut turns).pixels;
         if pixels.unsigned_abs() < least {
             let (region, first) = (face.region().0, face.first_pixel());
             eprintln!(
@@ -221,7 +221,12 @@ fn write(
             .file_name()
             .unwrap_or_default()
             .to_string_lossy();
-        let stage = progress.stage("writing", count);
+        let [_, _, points, ..] = cut.list().counts();
+        let steps = match asked.format() {
+            Format::Moves => points.into(),
+            _ => count + pieces.cuts().count() as u64,
+        };
+        let stage = progress.stage("writing", steps);
         outputs.write(path, |out| match (asked.format(), cut) {
             (Format::Svg, _) => svg::write(out, pieces, scale, &name, &stage),
             (Format::Dxf, _) => dxf::write(out, pieces, scale, &stage),

@@ -10,7 +10,7 @@ use crate::progress::Stage;
 pub fn write(out: &mut dyn Write, pieces: &Pieces, cuts: &OnSheet, stage: &Stage) -> Result<()> {
     // A travel begins each segment, in order.
     let mut segments = 0;
-    for (n, step) in cuts.moves().enumerate() {
+    for step in cuts.moves() {
         let (name, x, y) = match step {
             Move::Travel { x, y } => {
                 segments += 1;
@@ -21,7 +21,7 @@ pub fn write(out: &mut dyn Write, pieces: &Pieces, cuts: &OnSheet, stage: &Stage
         if pieces.is_cut(segments - 1) {
             writeln!(out, "{name} {x} {y}")?;
         }
-        stage.at(n as u64);
+        stage.step();
     }
     writeln!(out, "end")
 }

@@ -81,7 +81,7 @@ impl<R: BufRead> Source for Netpbm<R> {
         let wide = if self.most > 255 { 2 } else { 1 };
         let bytes = self.channels * wide;
         let mut line = vec![0; self.width as usize * bytes];
-        for (row, places) in colours.chunks_exact_mut(self.width as usize).enumerate() {
+        for places in colours.chunks_exact_mut(self.width as usize) {
             self.file.read_exact(&mut line).map_err(unread)?;
             for (place, pixel) in places.iter_mut().zip(line.chunks_exact(bytes)) {
                 let sample = |n: usize| match wide {
@@ -100,7 +100,7 @@ impl<R: BufRead> Source for Netpbm<R> {
                 }
                 *place = colour(samples, self.most);
             }
-            stage.at(row as u64);
+            stage.step();
         }
         match self.file.fill_buf().map_err(unread)?.is_empty() {
             true => Ok(()),

@@ -32,12 +32,7 @@ impl Outputs {
             return filled(io::stdout().lock(), write).map_err(failed);
         }
         match fs::metadata(place) {
-            Ok(there) if there.is_dir() => {
-                return Err(failed(io::Error::new(
-                    io::ErrorKind::Other,
-                    "it is a folder",
-                )))
-            }
+            Ok(there) if there.is_dir() => return Err(failed(io::Error::other("it is a folder"))),
             Ok(there) if !there.is_file() => {
                 let straight = OpenOptions::new()
                     .write(true)

@@ -131,13 +131,9 @@ fn add(turns: &mut Vec<Point>, corner: Point) {
     turns.push(corner);
 }
 
-/// Pixels inside a contour, those of a hole counted down. To be the library's `mosaic_veneer` once the binding has it.
-pub fn sum(contour: &Contour, turns: &mut Vec<Point>) -> i64 {
-    round(contour, turns);
+/// Pixels inside a contour with these turns, those of a hole counted down. To be the library's `mosaic_veneer` once the binding has it.
+pub fn sum(turns: &[Point]) -> i64 {
     let next = turns.iter().cycle().skip(1);
-    turns
-        .iter()
-        .zip(next)
-        .map(|(a, b)| i64::from(a.y) * (i64::from(b.x) - i64::from(a.x)))
-        .sum()
+    let east = |(a, b): (&Point, &Point)| i64::from(a.y) * (i64::from(b.x) - i64::from(a.x));
+    turns.iter().zip(next).map(east).sum()
 }

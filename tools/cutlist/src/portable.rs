@@ -98,7 +98,7 @@ impl Source for Reader<BufReader<File>> {
                 .flat_map(|pass| lines_of(pass, width as usize, height as usize))
                 .collect(),
         };
-        for (n, Line { first, step, y }) in lines.into_iter().enumerate() {
+        for Line { first, step, y } in lines {
             let pixels = (width as usize - first).div_ceil(step);
             let line = self.next_row().map_err(damaged)?;
             // The picture of an animation may be smaller than the animation.
@@ -115,7 +115,7 @@ impl Source for Reader<BufReader<File>> {
             for (place, samples) in places.zip(line.data().chunks_exact(bytes)) {
                 *place = pixel(kind, samples);
             }
-            stage.at(n as u64);
+            stage.step();
         }
         // Asks for the checksum of the last data.
         match self.next_row().map_err(damaged)? {

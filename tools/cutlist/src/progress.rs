@@ -1,5 +1,6 @@
 //! What a user at a terminal sees: the stages, with counts and time. In a pipe, and with --quiet, nothing.
 
+use std::cell::Cell;
 use std::io::{stderr, IsTerminal};
 use std::time::{Duration, Instant};
 
@@ -14,6 +15,7 @@ pub struct Progress {
 pub struct Stage {
     name: &'static str,
     bar: Option<ProgressBar>,
+    steps: Cell<u64>,
     began: Instant,
 }
 
@@ -41,17 +43,19 @@ impl Progress {
         Stage {
             name,
             bar,
+            steps: Cell::new(0),
             began: Instant::now(),
         }
     }
 }
 
 impl Stage {
-    /// So many steps are done. Cheap enough for each of many.
-    pub fn at(&self, step: u64) {
+    /// One step more is done. Cheap enough for each of many.
+    pub fn step(&self) {
         if let Some(bar) = &self.bar {
-            if step % 1024 == 0 {
-                bar.set_position(step);
+            self.steps.set(self.steps.get() + 1);
+            if self.steps.get() % 1024 == 0 {
+                bar.set_position(self.steps.get());
             }
         }
     }

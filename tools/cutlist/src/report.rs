@@ -14,12 +14,13 @@ pub struct Measures {
     /// The corners of its bounding box.
     low: Point,
     high: Point,
-    outline: f64,
-    holes: f64,
+    /// Level and upright sides of its pixels, along outlines and along holes.
+    outline: [u32; 2],
+    holes: [u32; 2],
 }
 
 /// Over a buffer of the caller's.
-pub fn measure(face: &Face, scale: &Scale, turns: &mut Vec<Point>) -> Measures {
+pub fn measure(face: &Face, turns: &mut Vec<Point>) -> Measures {
     let mut measures = Measures {
         pixels: 0,
         low: Point {
@@ -27,16 +28,20 @@ pub fn measure(face: &Face, scale: &Scale, turns: &mut Vec<Point>) -> Measures {
             y: u32::MAX,
         },
         high: Point { x: 0, y: 0 },
-        outline: 0.0,
-        holes: 0.0,
+        outline: [0, 0],
+        holes: [0, 0],
     };
     for contour in face.contours() {
-        let inside = sum(&contour, turns);
         round(&contour, turns);
+        let inside = sum(turns);
         measures.pixels += inside;
-        match inside > 0 {
-            true => measures.outline += scale.round(turns),
-            false => measures.holes += scale.round(turns),
+        let line = match inside > 0 {
+            true => &mut measures.outline,
+            false => &mut measures.holes,
+        };
+        for (a, b) in turns.iter().zip(turns.iter().cycle().skip(1)) {
+            line[0] += a.x.abs_diff(b.x);
+            line[1] += a.y.abs_diff(b.y);
         }
         for corner in turns.iter() {
             let Measures { low, high, .. } = &mut measures;
@@ -60,8 +65,8 @@ pub fn write(out: &mut dyn Write, pieces: &Pieces, scale: &Scale, stage: &Stage)
     }
     writeln!(out)?;
     let mut turns = Vec::new();
-    for (n, face) in pieces.faces().enumerate() {
-        let (first, found) = (face.first_pixel(), measure(&face, scale, &mut turns));
+    for face in pieces.faces() {
+        let (first, found) = (face.first_pixel(), measure(&face, &mut turns));
         write!(
             out,
             "{},{},{},{},{}",
@@ -79,8 +84,9 @@ pub fn write(out: &mut dyn Write, pieces: &Pieces, scale: &Scale, stage: &Stage)
                 scale.y.text(corner.y)
             )?;
         }
-        writeln!(out, ",{},{}", found.outline, found.holes)?;
-        stage.at(n as u64);
+        let [outline, holes] = [found.outline, found.holes].map(|line| scale.length(line));
+        writeln!(out, ",{outline},{holes}")?;
+        stage.step();
     }
     Ok(())
 }

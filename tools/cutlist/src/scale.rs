@@ -1,11 +1,11 @@
 //! Where a corner of the picture lies: in pixels, or in millimetres on a sheet.
 
 use mosaic::sheet::mosaic_move;
-use mosaic::{Point, Sheet};
+use mosaic::Sheet;
 
 /// The places of all columns or of all rows, and how they are written.
 pub struct Axis {
-    pub places: Vec<f64>,
+    places: Vec<f64>,
     texts: Vec<Box<str>>,
 }
 
@@ -96,19 +96,11 @@ impl Scale {
         }
     }
 
-    /// The length of a closed line with a corner at every turn.
-    pub fn round(&self, turns: &[Point]) -> f64 {
-        let place = |corner: Point| {
-            [
-                self.x.places[corner.x as usize],
-                self.y.places[corner.y as usize],
-            ]
+    /// The length of so many sides of pixels, level and upright: multiplied and then divided, as a place is.
+    pub fn length(&self, [level, upright]: [u32; 2]) -> f64 {
+        let along = |axis: &Axis, sides: u32| {
+            f64::from(sides) * axis.length() / (axis.places.len() - 1) as f64
         };
-        let next = turns.iter().cycle().skip(1);
-        turns
-            .iter()
-            .zip(next)
-            .map(|(&a, &b)| (place(a)[0] - place(b)[0]).abs() + (place(a)[1] - place(b)[1]).abs())
-            .sum()
+        along(&self.x, level) + along(&self.y, upright)
     }
 }

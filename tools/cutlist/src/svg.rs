@@ -24,7 +24,7 @@ pub fn write(
     writeln!(out, "<title>{}</title>", escaped(name))?;
     writeln!(out, r#"<g id="pieces" fill-rule="evenodd" stroke="none">"#)?;
     let mut turns = Vec::new();
-    for (n, face) in pieces.faces().enumerate() {
+    for face in pieces.faces() {
         let (region, first) = (face.region().0, face.first_pixel());
         write!(
             out,
@@ -43,7 +43,7 @@ pub fn write(
             r#""><title>region {region}, first pixel {},{}</title></path>"#,
             first.x, first.y
         )?;
-        stage.at(n as u64);
+        stage.step();
     }
     writeln!(out, "</g>")?;
     writeln!(
@@ -59,6 +59,7 @@ pub fn write(
         line(out, &turns, scale)?;
         out.write_all(if cut.is_ring() { b"Z" } else { b"" })?;
         writeln!(out, r#""/>"#)?;
+        stage.step();
     }
     writeln!(out, "</g>\n</svg>")
 }
