@@ -224,7 +224,10 @@ function cells(face) {
     const mark = document.createElement('span');
     if (list.hangs[face]) {
         mark.className = 'corner';
-        mark.textContent = '◇ hangs';
+        mark.textContent = '◇';
+        mark.title = 'hangs by a corner only';
+        mark.setAttribute('role', 'img');
+        mark.setAttribute('aria-label', mark.title);
     }
     return [...found, mark];
 }

@@ -4,6 +4,7 @@ import { colourOf } from './pieces.mjs';
 const CUT = [44, 30, 20], MARK = '#d0261c';
 const LINES_FROM = 3; // screen pixels for a picture's pixel from which cuts are drawn as lines
 const CLOSEST = 64;
+const MOST_RINGS = 800; // around corners in sight
 
 export class View {
     /** `onPiece(face, chosen)` is called when another piece, or none (-1), is pointed at or chosen. */
@@ -100,7 +101,7 @@ export class View {
         });
         const { canvas } = this, wide = high[0] - low[0], tall = high[1] - low[1];
         const most = 0.7 * Math.min(canvas.width / wide, canvas.height / tall);
-        if (this.scale > most || Math.min(wide, tall) * this.scale < 12 * this.ratio) this.scale = Math.max(this.whole, Math.min(most, 16 * this.ratio));
+        if (this.scale > most || Math.max(wide, tall) * this.scale < 40 * this.ratio) this.scale = Math.max(this.whole, Math.min(most, 16 * this.ratio));
         this.left = (low[0] + high[0]) / 2 - canvas.width / 2 / this.scale;
         this.top = (low[1] + high[1]) / 2 - canvas.height / 2 / this.scale;
         this.fitted = false;
@@ -277,18 +278,21 @@ export class View {
         brush.setLineDash([]);
     }
 
-    /** A ring around each corner by which a piece hangs. */
+    /** A ring around each corner by which a piece hangs; where there are too many in sight, around those of the piece that is lit. */
     corners() {
-        const { brush, canvas, list, scale, left, top, ratio } = this, found = list.hangingCorners;
+        const { brush, canvas, list, scale, left, top, ratio, outline } = this, found = list.hangingCorners;
         const radius = Math.min(7, Math.max(2, scale / ratio)) * ratio;
+        let rings = [];
+        for (let i = 0; i < found.length; i += 3) {
+            const x = (found[i] - left) * scale, y = (found[i + 1] - top) * scale;
+            if (x > -radius && y > -radius && x < canvas.width + radius && y < canvas.height + radius) rings.push([x, y, found[i + 2]]);
+        }
+        if (rings.length > MOST_RINGS) rings = rings.filter(([, , face]) => face === outline?.face);
         brush.setTransform(1, 0, 0, 1, 0, 0);
         brush.beginPath();
-        for (let i = 0, drawn = 0; i < found.length && drawn < 5000; i += 3) {
-            const x = (found[i] - left) * scale, y = (found[i + 1] - top) * scale;
-            if (x < -radius || y < -radius || x > canvas.width + radius || y > canvas.height + radius) continue;
+        for (const [x, y] of rings) {
             brush.moveTo(x + radius, y);
             brush.arc(x, y, radius, 0, 2 * Math.PI);
-            drawn++;
         }
         brush.lineWidth = 1.6 * ratio;
         brush.strokeStyle = MARK;
