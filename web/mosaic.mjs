@@ -1,5 +1,6 @@
 // The proved library as WebAssembly: memory lent to it, and its calls as include/mosaic.h has them.
-export const OUTSIDE = 4294967295;
+export const OUTSIDE = 4294967295; // the label of no piece
+export const NONE = 4294967295; // no node
 export const LONGEST_SIDE = 16384;
 export const LONGEST_SHEET = 3000; // millimetres
 

@@ -256,13 +256,14 @@ function turnPage(by) {
 // ---------------------------------------------------------------- downloads
 
 async function download(kind) {
-    if (!sides().every(allowed) && kind !== 'csv') return at('sheet-width').focus();
+    if (!sides().every(allowed)) return at('sheet-width').focus();
+    const name = source.blob?.name ?? `${source.name}.png`;
     busy('file');
     try {
-        const blob = await ask('file', { kind, sheet: sides().every(allowed) ? sides() : [list.width, list.height] });
+        const blob = await ask('file', { kind, name, sheet: sides() });
         const link = document.createElement('a');
         link.href = URL.createObjectURL(blob);
-        link.download = `${(source.name ?? source.blob.name ?? 'picture').replace(/\.[^.]*$/, '')}.${kind}`;
+        link.download = `${name.replace(/\.[^.]*$/, '')}.${kind}`;
         link.click();
         setTimeout(() => URL.revokeObjectURL(link.href), 60000);
         busy(null);

@@ -1,5 +1,5 @@
 // From the records of a cut list to what the page shows and the files hold: outlines and holes, the piece at each pixel, cuts, corners.
-import { OUTSIDE } from './mosaic.mjs';
+import { NONE, OUTSIDE } from './mosaic.mjs';
 
 /** Numbers one after another, in as much room as they need. */
 class Growing {
@@ -22,7 +22,7 @@ class Growing {
 }
 
 /**
- * The corners of each contour at which it turns, first one not repeated; which contours are holes (their sum, y for a step east and minus y for
+ * The corners of each contour at which it turns, its start last, none repeated; which contours are holes (their sum, y for a step east and minus y for
  * a step west, is not above 0); and the face at each pixel, plus 1, where it begins: a step south has its face's pixel on its left.
  */
 function contours({ width, height, counts, segments, points, references, contours: records, faces }) {
@@ -75,9 +75,9 @@ function spread(labels, faceAt, width) {
     }
 }
 
-/** The corners of each segment, ends and turns; and whether there is a piece on both sides. */
+/** The corners of each segment, ends and turns; and which are rings, whose last corner is their first. */
 function cuts({ counts, segments, points }) {
-    const corners = new Growing(Uint16Array), starts = new Uint32Array(counts.segments + 1), inner = new Uint8Array(counts.segments);
+    const corners = new Growing(Uint16Array), starts = new Uint32Array(counts.segments + 1), rings = new Uint8Array(counts.segments);
     for (let segment = 0; segment < counts.segments; segment++) {
         const first = 2 * segments[8 * segment], last = first + 2 * (segments[8 * segment + 1] - 1);
         corners.pair(points[first], points[first + 1]);
@@ -87,9 +87,9 @@ function cuts({ counts, segments, points }) {
         }
         corners.pair(points[last], points[last + 1]);
         starts[segment + 1] = corners.length / 2;
-        inner[segment] = segments[8 * segment + 4] !== OUTSIDE && segments[8 * segment + 5] !== OUTSIDE ? 1 : 0;
+        rings[segment] = segments[8 * segment + 2] === NONE ? 1 : 0;
     }
-    return { corners: corners.done(), starts, inner };
+    return { corners: corners.done(), starts, rings };
 }
 
 /**

@@ -187,19 +187,23 @@ test('millimetres are multiplied, then divided; the far edge is the sheet\'s own
     for (const side of [0, -1, NaN, 3000.5]) assert.throws(() => library.millimetres(7, 3, side, 100), { number: 16 });
 });
 
+test('numbers are written without an exponent', () => {
+    assert.deepEqual([0, 0.1, 1 / 3, 1.5e-7, 2e-9, 3e21].map(files.decimal), ['0', '0.1', '0.3333333333333333', '0.00000015', '0.000000002', '3000000000000000000000']);
+});
+
 test('the built-in pictures and their files', { skip: !library.has('move') || !library.has('veneer') }, async () => {
     for (const name of Object.keys(pictures)) {
         const { width, height, pixels } = pictures[name](), colours = new Colours(width * height);
         colours.add(pixels);
         const list = piecesOf(library.cut({ width, height, ...colours.map(true) })), sheet = [600, 600 * height / width];
         const millimetres = library.millimetres(width, height, ...sheet);
-        const rows = (await files.blobOf(files.csv(list, sheet)).text()).trimEnd().split('\n').map((line) => line.split(','));
+        const rows = (await files.blobOf(files.csv(list, sheet, millimetres)).text()).trimEnd().split('\n').map((line) => line.split(','));
         assert.equal(rows.length, list.counts.faces + 1);
-        assert.equal(rows.slice(1).reduce((sum, row) => sum + Number(row[5]), 0), width * height - colours.transparent);
-        const svg = [...files.svg(list, sheet, millimetres)].join('');
+        assert.equal(rows.slice(1).reduce((sum, row) => sum + Number(row[4]), 0), width * height - colours.transparent);
+        const svg = [...files.svg(list, sheet, millimetres, name)].join('');
         assert.equal(svg.match(/<path id="piece-/g).length, list.counts.faces);
-        assert.equal(svg.match(/<path d=/g).length, list.counts.segments);
+        assert.equal(svg.match(/<path id="cut-/g).length, list.counts.segments);
         const dxf = [...files.dxf(list, sheet, millimetres)].join('');
-        assert.equal(dxf.match(/^POLYLINE$/gm).length, list.counts.segments);
+        assert.equal(dxf.match(/^POLYLINE$/gm).length, list.counts.segments + list.counts.contours);
     }
 });

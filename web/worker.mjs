@@ -102,11 +102,11 @@ async function cut({ limit, waste }) {
     return [{ ...kept, faceAt, levels, image, bytes: found.bytes }, [image, faceAt.buffer, ...levels.map(({ bits }) => bits.buffer)]];
 }
 
-async function file({ kind, sheet }) {
+async function file({ kind, sheet, name }) {
     tell('file');
     const types = { svg: 'image/svg+xml', dxf: 'image/vnd.dxf', csv: 'text/csv' };
     const millimetres = (await library).millimetres(list.width, list.height, ...sheet);
-    return [files.blobOf(files[kind](list, sheet, millimetres), types[kind])];
+    return [files.blobOf(files[kind](list, sheet, millimetres, name), types[kind])];
 }
 
 async function start({ wasm }) {
