@@ -2,11 +2,12 @@
  * mosaic.h: the cut list of a label map, for C and C++.
  *
  * A map is a width, a height, a paint count and width x height labels, row by row. A label is painted when it is below the paint
- * count; MOSAIC_OUTSIDE marks a pixel that belongs to no piece, and so reads every pixel off the map. Three calls look at a map:
+ * count; MOSAIC_OUTSIDE marks a pixel that belongs to no piece, and so reads every pixel off the map. These calls look at a map:
  *
  *   mosaic_size   counts its cut list;
  *   mosaic_graph  writes its nodes, segments and points;
- *   mosaic_whole  writes these and its references, contours and faces.
+ *   mosaic_whole  writes these and its references, contours and faces;
+ *   mosaic_veneer writes how many pixels are in each face.
  *
  * Link the archive that `rt staticlib mosaic` writes, target/staticlib/libmosaic.a (x86-64 Linux). It needs memset and no more of C.
  *
@@ -33,6 +34,7 @@
  *   3      the work store is shorter than 8 x (width+1) x (height+1) words
  *   4 5 6  the node, segment, point store holds fewer records than the map needs     (graph and whole)
  *   7 8 9  the reference, contour, face store likewise                               (whole and assemble)
+ *   9      the store of sums holds fewer numbers than the map has faces              (veneer)
  *   11     the layers, their masks or the labels are not whole; asked after 1        (layers)
  *   12     before a merge, a label is neither MOSAIC_OUTSIDE nor painted             (merge, after 2 and before 3)
  *   13     the listing store is shorter than the listing                             (listing)
@@ -330,6 +332,21 @@ void mosaic_listing(uint32_t mode, uint32_t width, uint32_t height, uint32_t pai
                     const uint32_t *named, mosaic_length named_len,
                     uint32_t *words, mosaic_length words_len,
                     mosaic_listing_answer *answer);
+
+/*
+ * HOW MUCH VENEER IS IN EACH PIECE. The sum of each face, in face order, into a store of signed 64-bit numbers: `sums_len` is its length in
+ * numbers, and every pointer to it is aligned for int64_t. A contour's own sum goes over its unit steps in their direction: y for a step east,
+ * minus y for a step west. A face's sum is that of its contours, and it is the number of its pixels; all sums together are the number of
+ * painted pixels. The rest is as in mosaic_size: 1 to 3, and then 9 (MOSAIC_SHORT_FACES) when the store holds fewer numbers than there are
+ * faces; no sum is then written. On 0 the numbers past the last face keep their value.
+ *
+ * A contour whose own sum is above zero is an outline, any other is the rim of a hole. It is not always the first contour of its face.
+ */
+void mosaic_veneer(uint32_t mode, uint32_t width, uint32_t height, uint32_t paints,
+                   const uint32_t *labels, mosaic_length labels_len,
+                   uint32_t *work, mosaic_length work_len,
+                   int64_t *sums, mosaic_length sums_len,
+                   mosaic_answer *answer);
 
 #ifdef __cplusplus
 }

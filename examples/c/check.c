@@ -180,7 +180,7 @@ static void sides(void) {
     }
 }
 
-/* The two refusals that document 01 spells out. */
+/* Two refusals, spelled out. */
 static void short_stores(void) {
     static const uint32_t labels[2] = {0, 1};
     static const uint32_t counts[8] = {0, 2, 3, 10, 4, 2, 2, 7};

@@ -1,4 +1,4 @@
-//! The maps of document 01, worked by hand there.
+//! The maps of docs/RULES.md, worked by hand there.
 
 use mosaic::{
     cut, CutList, Direction, Map, NodeId, Pixel, Point, Refusal, RegionId, SegRef, SegmentId,

@@ -1,4 +1,4 @@
--- One pixel touched up (document 02, #114): a painted island that neither contains the pixel nor touches it stays, with its label and contours.
+-- One pixel touched up (docs/RULES.md, #114): a painted island that neither contains the pixel nor touches it stays, with its label and contours.
 use Prim.Native.Nat.{ℕ, suc, _+_, _*_, _/_, _%_, _<_, _≤_}
 use mathlib.Core.Path.{_≡_, refl, sym, ap, ap₂, _∙_, subst, subst₃}
 use mathlib.Core.List.{List, List·Memᴰ as In}

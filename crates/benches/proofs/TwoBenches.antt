@@ -1,4 +1,4 @@
--- Two benches, one panel (document 02, #110): a bench's listing depends only on where its own painted labels lie.
+-- Two benches, one panel (docs/RULES.md, #110): a bench's listing depends only on where its own painted labels lie.
 use Prim.Native.Nat.{ℕ, _+_, _*_, _<_, _≤_}
 use mathlib.Core.Bool.{Bool, true, false, cond, not, _||_}
 use mathlib.Core.Path.{_≡_, refl, sym, ap, ap₂, _∙_, subst}

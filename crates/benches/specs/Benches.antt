@@ -1,4 +1,4 @@
--- Two maps as two benches and a retoucher see them (document 02, #110 and #114).
+-- Two maps as two benches and a retoucher see them (docs/RULES.md, #110 and #114).
 use Prim.Native.Nat.{ℕ, suc, _*_, _/_, _%_, _<_, _≤_}
 use mathlib.Core.Path.{_≡_}
 use mathlib.Core.Logic.{_↔_}

@@ -1,4 +1,4 @@
--- A bench's listing of its pieces, by unit steps, and the call that writes it (document 02, #110).
+-- A bench's listing of its pieces, by unit steps, and the call that writes it (docs/RULES.md, #110).
 use Prim.Native.Nat.{ℕ}
 use mathlib.Core.Bool.{Bool, true, false, cond}
 use mathlib.Core.List.{List, [], _∷_, _++_, map}

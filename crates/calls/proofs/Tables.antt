@@ -1,4 +1,4 @@
--- The rows of document 01's table, "Calls and their numbers", over the definitions' checks.
+-- The rows of the table in docs/RULES.md, over the definitions' checks.
 use Prim.Native.Nat.{ℕ, _+_, _*_, _/_, _<_}
 use mathlib.Core.Bool.{Bool, true, false, not, _||_, true≢false}
 use mathlib.Core.Path.{_≡_, refl, sym, ap, _∙_}

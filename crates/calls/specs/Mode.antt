@@ -8,7 +8,7 @@ use Rattle.rules.specs.Calls.{Map}
 use Rattle.lattice.specs.declared.Size.{Size}
 use Rattle.calls.specs.Outcome.{mapOf}
 
--- mode 0 reads every label as it is; any other reads a label that is not painted as OUTSIDE (document 02, #107)
+-- mode 0 reads every label as it is; any other reads a label that is not painted as OUTSIDE (docs/RULES.md, #107)
 abbrev pub boundIn : ℕ → ℕ → ℕ
 boundIn mode paints = elim (eqb mode 0) [ true ↦ OUTSIDE | false ↦ paints ]
 

@@ -18,7 +18,7 @@ ghost use Rattle.calls.specs.Mode.{sizeIn};
 ghost use Rattle.calls.specs.Counted.{orElse, GraphRoom, FaceRoom, AllRoom, mostOf};
 ghost use Rattle.calls.specs.Steps.{GraphCounted, CountsGraph, CountsFaces, GraphRoomy, GraphWritten, FacesRoomy, FacesWritten};
 
-// The number of document 01, then the seven counts.
+// The number of docs/RULES.md, then the seven counts.
 pub struct Answer {
     pub number: u32,
     pub nodes: u32,

@@ -28,7 +28,7 @@ degreeIn a = one (crackIn a N) + one (crackIn a E) + one (crackIn a S) + one (cr
 abbrev pub nodeIn : Around → Bool
 nodeIn a = leb 3 (degreeIn a)
 
--- the same by mask, row by row, to be read beside the definition (document 02, #105); `no-mask-of-one` shows the four that no corner has
+-- the same by mask, row by row, to be read beside the definition (docs/RULES.md, #105); `no-mask-of-one` shows the four that no corner has
 unfoldable pub nodeMasks : List Bool
 nodeMasks =
     false ∷  -- 0: no cut

@@ -1,4 +1,4 @@
--- A map from layers (document 02, #103): what is refused, and the label of each pixel.
+-- A map from layers (docs/RULES.md, #103): what is refused, and the label of each pixel.
 -- A layer is four words, x and y offset, signed, then width and height; its mask is the next width × height bytes of one store.
 use Prim.Native.Nat.{ℕ, zero, suc, _+_, _*_, _-_, _/_, _%_, _<_}
 use mathlib.Core.Bool.{Bool, true, false, not, _&&_, _||_}

@@ -1,4 +1,4 @@
-// A bench's listing of its pieces, by unit steps, from the labels and the work store alone (document 02, #110).
+// A bench's listing of its pieces, by unit steps, from the labels and the work store alone (docs/RULES.md, #110).
 pub mod marks;
 pub mod names;
 pub mod prepare;

@@ -1,4 +1,4 @@
--- A move as a C program has it: a number, the place of the next move in two words, and a point (document 02, #112).
+-- A move as a C program has it: a number, the place of the next move in two words, and a point (docs/RULES.md, #112).
 use Prim.Native.Nat.{ℕ}
 use mathlib.Core.Bool.{not}
 use mathlib.Core.Path.{_≡_}

@@ -1,4 +1,4 @@
-// The listing of the pieces whose labels are named, for C programs (document 02, #110). The answer is a pointer to two words.
+// The listing of the pieces whose labels are named, for C programs (docs/RULES.md, #110). The answer is a pointer to two words.
 ghost use mathlib.Core.Path.{_≡_};
 ghost use mathlib.Core.List.{[], _∷_};
 ghost use Rattle.benches.specs.Listing.{listing as listingCall};

@@ -1,4 +1,4 @@
-// Near colours become one leaf (document 02, #106), for C programs: the answer is two words, the number and the new paint count.
+// Near colours become one leaf (docs/RULES.md, #106), for C programs: the answer is two words, the number and the new paint count.
 ghost use mathlib.Core.Path.{_≡_};
 ghost use Rattle.merge.specs.Merge.{merge as mergeOf};
 ghost use Rattle.merge.specs.Called.{answered};

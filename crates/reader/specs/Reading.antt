@@ -1,4 +1,4 @@
--- What the segment reader says at each call, and a run of its calls (document 01, "Segment reader and text program").
+-- What the segment reader says at each call, and a run of its calls (docs/RULES.md, "The segment reader").
 use Prim.Native.Nat.{ℕ, zero, suc, _+_, _*_, _-_, _/_}
 use mathlib.Core.Bool.{Bool, true, false, cond}
 use mathlib.Core.List.{List, [], _∷_}
@@ -10,7 +10,7 @@ use Rattle.reader.specs.declared.Corner.the-variants.{At, End, Outside}
 use Rattle.reader.specs.declared.Step.{Step}
 use Rattle.reader.specs.declared.Reader.{Reader}
 
--- WHAT IS SAID, in document 01's number and values: 10 where the part does not lie inside, else 0, with the two coordinates of a corner or,
+-- WHAT IS SAID, in the rules' number and values: 10 where the part does not lie inside, else 0, with the two coordinates of a corner or,
 -- at the end, with none
 
 pub record Said : Type 0 where

@@ -1,4 +1,4 @@
--- A map whose waste is not cut (document 02, #107): its picture is that of the map with its waste cleared, so every call on it answers and
+-- A map whose waste is not cut (docs/RULES.md, #107): its picture is that of the map with its waste cleared, so every call on it answers and
 -- writes what the same call does on that map.
 use Prim.Native.Nat.{ℕ, zero, suc, _+_, _*_, _<_, _≤_}
 use mathlib.Core.Bool.{Bool, true, false, cond, not, _&&_, _||_}

@@ -1,4 +1,4 @@
--- The maps that document 01 works by hand, under one statement: every fact that it states of them, by computing the definitions.
+-- The maps worked by hand, under one statement: their facts, by computing the definitions.
 use Prim.Native.Nat.{ℕ}
 use mathlib.Core.Path.{_≡_, refl}
 use mathlib.Core.List.{List, [], _∷_}
@@ -45,7 +45,7 @@ pub record Worked : Type 0 where
   pub outside-largest : counts (map 1 1 4294967295 (OUTSIDE ∷ [])) ≡ none
   pub largest : counts (map 1 1 4294967295 (4294967294 ∷ [])) ≡ 0 ∷ 1 ∷ 5 ∷ 1 ∷ 1 ∷ 1 ∷ 4 ∷ []
   pub largest-face : cutList (map 1 1 4294967295 (4294967294 ∷ [])) .faces ≡ 4294967294 ∷ 0 ∷ 1 ∷ 0 ∷ 0 ∷ []
-  -- two pixels: every word that document 01 prints
+  -- two pixels: every word of its cut list
   pub pair : cutList (map 2 1 2 (0 ∷ 1 ∷ [])) ≡ record {
     nodes =
         1 ∷ 0 ∷ NONE ∷ 0 ∷ 2 ∷ 4 ∷

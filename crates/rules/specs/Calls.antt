@@ -1,4 +1,4 @@
--- What each call answers and what it leaves in every lent store, for every input (document 01, "Calls and their numbers").
+-- What each call answers and what it leaves in every lent store, for every input (docs/RULES.md, "Numbers").
 use Prim.Native.Nat.{ℕ, _+_, _*_, _/_, _≤_}
 use mathlib.Core.Bool.{Bool, true, false, not, _&&_, _||_}
 use mathlib.Core.Path.{_≡_}
@@ -17,7 +17,7 @@ pub record Map : Type 0 where
   pub width : ℕ
   pub height : ℕ
   pub paints : ℕ
-  -- labels from here on are read as OUTSIDE: OUTSIDE itself, or the paint count where no cut goes through waste (document 02, #107)
+  -- labels from here on are read as OUTSIDE: OUTSIDE itself, or the paint count where no cut goes through waste (docs/RULES.md, #107)
   pub bound : ℕ
   pub labels : List ℕ
 

@@ -1,4 +1,4 @@
--- What a list of segments must be to describe a picture (document 02, #111): in any order, each in either direction, each ring from any of
+-- What a list of segments must be to describe a picture (docs/RULES.md, #111): in any order, each in either direction, each ring from any of
 -- its corners. The traced segments are one such list.
 use mathlib.Core.Bool.{true, false}
 use mathlib.Core.Path.{_≡_}

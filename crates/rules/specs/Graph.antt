@@ -1,4 +1,4 @@
--- Nodes, segments and rings of a picture (document 01, "Rules of the lattice"). A segment is the list of its steps.
+-- Nodes, segments and rings of a picture (docs/RULES.md, "The lattice"). A segment is the list of its steps.
 use Prim.Native.Nat.{ℕ, zero, suc, _+_, _*_}
 use mathlib.Core.Bool.{Bool, true, false, cond, not, _&&_, _||_}
 use mathlib.Core.List.{List, [], _∷_, _++_}

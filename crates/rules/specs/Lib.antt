@@ -1,4 +1,4 @@
--- The rules of document 01, as definitions: read them in this order.
+-- The rules of docs/RULES.md, as definitions: read them in this order.
 pub mod Lists
 pub mod Picture
 pub mod Graph

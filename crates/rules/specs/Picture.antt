@@ -1,4 +1,4 @@
--- A map as extraction sees it, and the cracks between its pixels (document 01, "Rules of the lattice").
+-- A map as extraction sees it, and the cracks between its pixels (docs/RULES.md, "The lattice").
 -- Everything above this file speaks of a `Picture` and never of a list of labels: a new way to look a label up changes `picture` alone.
 use Prim.Native.Nat.{ℕ, zero, suc, pred, _+_, _*_}
 use mathlib.Core.Bool.{Bool, true, false, cond, not, _&&_}

@@ -1,4 +1,4 @@
--- The words of the six stores, and the seven counts (document 01, "Calls and their numbers").
+-- The words of the six stores, and the seven counts (docs/RULES.md, "Numbers").
 use Prim.Native.Nat.{ℕ, suc, pred, _+_, _/_, _%_}
 use mathlib.Core.Bool.{true, false, cond, _&&_}
 use mathlib.Core.List.{List, [], _∷_, map}

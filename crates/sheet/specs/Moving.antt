@@ -1,4 +1,4 @@
--- What the mover says at each call, and a run of its calls (document 02, #112).
+-- What the mover says at each call, and a run of its calls (docs/RULES.md, #112).
 use Prim.Native.Nat.{ℕ, zero, suc, _+_, _*_, _-_, _/_}
 use mathlib.Core.Bool.{Bool, true, false, cond}
 use mathlib.Core.List.{List, [], _∷_}
@@ -13,7 +13,7 @@ use Rattle.sheet.specs.declared.Place.{Place}
 use Rattle.sheet.specs.declared.Mover.{Mover}
 use Rattle.sheet.specs.declared.Step.{Step}
 
--- WHAT IS SAID, in document 02's number and values: 10 and no move where a part does not lie inside, else 0 and the move
+-- WHAT IS SAID, in the rules' number and values: 10 and no move where a part does not lie inside, else 0 and the move
 
 pub record Said : Type 0 where
   pub number : ℕ

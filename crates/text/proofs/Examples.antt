@@ -1,4 +1,4 @@
--- Texts and what `textmap` prints for them, computed: document 01's printed example, and odd input.
+-- Texts and what `textmap` prints for them, computed: the printed example, and odd input.
 use mathlib.Core.Path.{_≡_, refl}
 use mathlib.Core.List.{[], _∷_}
 use Rattle.rules.specs.Lists.{keep, flat, upto, among}

@@ -1,4 +1,4 @@
--- The grammar of a map's text (document 01, "Segment reader and text program"): a line `width height paints`, then height lines of
+-- The grammar of a map's text (docs/RULES.md, "textmap"): a line `width height paints`, then height lines of
 -- width entries; single spaces, decimals without leading zeros, `.` for OUTSIDE, every line ended by a newline.
 use Prim.Native.Nat.{ℕ, zero, suc, _+_, _*_, _-_}
 use mathlib.Core.Bool.{true, false}

@@ -1,4 +1,4 @@
--- What is printed: decimals, fields and lines (document 01, "Segment reader and text program").
+-- What is printed: decimals, fields and lines (docs/RULES.md, "textmap").
 use Prim.Native.Nat.{ℕ, zero, suc, _+_, _*_, _/_, _%_, _≤_, min}
 use mathlib.Core.Bool.{true, false}
 use mathlib.Core.Path.{_≡_}

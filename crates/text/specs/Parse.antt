@@ -1,4 +1,4 @@
--- What a text is parsed as, for every list of bytes (document 01, "Segment reader and text program").
+-- What a text is parsed as, for every list of bytes (docs/RULES.md, "textmap").
 use Prim.Native.Nat.{ℕ}
 use mathlib.Core.Bool.{true, false}
 use mathlib.Core.List.{List, [], _∷_}

@@ -1,4 +1,4 @@
--- What `textmap` prints for what it reads (document 01, "Segment reader and text program").
+-- What `textmap` prints for what it reads (docs/RULES.md, "textmap").
 use Prim.Native.Nat.{ℕ}
 use mathlib.Core.List.{List}
 use Rattle.rules.specs.Picture.{OUTSIDE}

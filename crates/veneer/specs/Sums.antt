@@ -1,4 +1,4 @@
--- How much veneer is in each piece (document 02, #101): sums over the steps of contours, in signed numbers.
+-- How much veneer is in each piece (docs/RULES.md, #101): sums over the steps of contours, in signed numbers.
 use Prim.Native.Nat.{ℕ}
 use mathlib.Core.Bool.{Bool, true, false}
 use mathlib.Core.List.{List, [], _∷_, _++_, map}

@@ -1,4 +1,4 @@
--- The call `assemble`: the faces of a map over a graph that is handed in (document 02, #111).
+-- The call `assemble`: the faces of a map over a graph that is handed in (docs/RULES.md, #111).
 use Prim.Native.Nat.{ℕ}
 use mathlib.Core.Bool.{Bool, not}
 use mathlib.Core.List.{List, [], _∷_}

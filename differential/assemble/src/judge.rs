@@ -1,4 +1,4 @@
-//! Document 02, #111 word by word: does a graph in words describe a map? Written from the request and document 01, not from the definitions.
+//! #111 word by word: does a graph in words describe a map? Written from the request and docs/RULES.md, not from the definitions.
 
 use crate::library::Graph;
 use std::collections::{HashMap, HashSet};

@@ -58,7 +58,7 @@ fn put(data: &mut Vec<u8>, word: u32) {
     }
 }
 
-/// The maps that document 01 works by hand, as far as replay has room for them.
+/// The maps worked by hand, as far as replay has room for them.
 fn worked() -> Vec<Map> {
     let map = |width, height, paints, labels: &[u32]| Map {
         width,

@@ -1,4 +1,4 @@
-//! What is asked of the library for one map, and what document 01 says must come of it, given the Rust's cut list.
+//! What is asked of the library for one map, and what the rules say must come of it, given the Rust's cut list.
 
 use std::fmt;
 
@@ -66,7 +66,7 @@ pub struct Expected<'a> {
     pub words: [&'a [u32]; 6],
 }
 
-/// Document 01, "Calls and their numbers", for a map with this cut list. (After 1, 2 and 3 the list is not looked at.)
+/// docs/RULES.md, "Numbers", for a map with this cut list. (After 1, 2 and 3 the list is not looked at.)
 pub fn expected<'a>(setup: &Setup, list: &'a CutList) -> Expected<'a> {
     let number = number(setup, list);
     let mut answer = [0; 8];

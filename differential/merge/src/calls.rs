@@ -106,7 +106,7 @@ fn merges(job: &Job) -> bool {
     job.limit >= 0 && job.paints >= 2
 }
 
-/// The refusals of document 02, in their order.
+/// The refusals, in their order.
 fn number(call: &Call) -> u32 {
     let job = &call.job;
     let stray = |&label: &u32| label != OUTSIDE && label >= job.paints;

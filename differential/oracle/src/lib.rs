@@ -201,7 +201,7 @@ pub fn from_segmentation(seg: &Segmentation) -> LabelMap {
 mod tests {
     use super::*;
 
-    /// The 2×1 map that document 01 prints.
+    /// The 2×1 map of two labels.
     #[test]
     fn the_printed_map() {
         let found = cut_list(2, 1, 2, &[0, 1]);

@@ -11,7 +11,7 @@ use Rattle.calls.proofs.Rows.{_⇔_, Row, checks, numbers, None, Rising
 use Rattle.calls.proofs.Tables.{mapRows, graphRows, faceRows, size-checks, graph-checks, whole-checks, size-rising, graph-rising, whole-rising}
 use Rattle.calls.proofs.Settled.{Settled, number-is, settled}
 
--- a call's outcome, by its rows of document 01's table and the words that belong into each of its stores
+-- a call's outcome, by its rows of the table in docs/RULES.md and the words that belong into each of its stores
 pub record Answered (rows : List {1} Row) (m : Map) (l : CutList) (work : List ℕ) (parts : List (List ℕ × List ℕ)) (o : Outcome) : Type 1 where
   -- the number is 0 or a row's
   pub listed : (o .answer .number ≡ 0) ⊎ In (o .answer .number) (numbers rows)

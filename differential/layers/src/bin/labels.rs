@@ -1,4 +1,4 @@
-//! Compares the library's labels with those of the unchanged Rust on random layers, and its numbers on damaged ones with document 02.
+//! Compares the library's labels with those of the unchanged Rust on random layers, and its numbers on damaged ones with docs/RULES.md.
 //! Prints the smallest case that differs; the last line counts cases and differences.
 
 use layers::{flatten, Dice};
@@ -98,7 +98,7 @@ fn damaged(dice: &mut Dice, mut case: Case) -> Case {
     case
 }
 
-/// Document 02's refusals, once more.
+/// The refusals, once more.
 fn number(case: &Case) -> u32 {
     if case.width > 16_384 || case.height > 16_384 {
         return 1;

@@ -23,9 +23,9 @@ same-length-2 c = search needs
 
 returns : tie.Need-returns
 returns c =
-    let at-veneer = c .before .before .before .before .before in
+    let at-veneer = c .before .before .before .before in
     let at-sized = at-veneer .before .before .before .before in
-    let a = at-sized .before .before .before .before .args in
+    let a = at-sized .before .before .before .args in
     rw (c .put-answer .ensures) (at-veneer .veneer .ensures ∙ ap (λ s. veneer (mapOf s (a .labels .now)) (a .work .now) (a .sums .now)) (at-sized .sized .ensures))
 
 pub mosaic-veneer-spec : {M : Type 1} → statement M
