@@ -46,7 +46,9 @@ export class Colours {
     /** Labels, colours and paint count, with the transparent pixels as waste or as white veneer. */
     map(waste) {
         if (waste || this.transparent === 0) return { paints: this.paints, colours: this.colours, labels: this.labels };
-        const white = this.labelOf(255, 255, 255);
-        return { paints: this.paints, colours: this.colours, labels: this.labels.map((label) => (label === OUTSIDE ? white : label)) };
+        const known = this.numbers[0xffffff], white = known === 0 ? this.paints : known - 1, paints = Math.max(this.paints, white + 1);
+        const colours = new Uint8Array(3 * paints).fill(255);
+        colours.set(this.colours.subarray(0, 3 * this.paints));
+        return { paints, colours, labels: this.labels.map((label) => (label === OUTSIDE ? white : label)) };
     }
 }

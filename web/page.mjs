@@ -24,6 +24,11 @@ function ask(job, rest) {
     return new Promise((done, failed) => waiting.set(id, { done, failed }));
 }
 
+function giveUp(problem) {
+    for (const { failed } of waiting.values()) failed(new Error(problem));
+    waiting.clear();
+}
+
 async function begin() {
     worker = new Worker(new URL('worker.mjs', import.meta.url), { type: 'module' });
     worker.onmessage = ({ data: { id, answer, problem, stage, part } }) => {
@@ -33,10 +38,7 @@ async function begin() {
         if (problem === undefined) done(answer);
         else failed(new Error(problem));
     };
-    worker.onerror = (event) => {
-        for (const { failed } of waiting.values()) failed(new Error(event.message || 'The work broke off: this browser has not enough memory for it.'));
-        waiting.clear();
-    };
+    worker.onerror = (event) => giveUp(event.message || 'The work broke off: this browser has not enough memory for it.');
     calls = new Set(await ask('start', { wasm: new URL('mosaic.wasm', import.meta.url).href }));
     for (const part of document.querySelectorAll('[data-needs]')) part.hidden = !part.dataset.needs.split(' ').every(can);
 }
@@ -66,43 +68,51 @@ let running = 0; // the number of the last cut asked for
 
 const view = new View(at('view'), showPiece);
 
-/** Cuts what is chosen, as the controls say; a cut asked for meanwhile takes this one's place. */
-async function cut() {
+let turn = Promise.resolve(); // done when the last cut begun is
+
+/** Cuts what is chosen, as the controls say. Where more is asked for meanwhile, the last alone is cut. */
+function cut() {
     if (!source) return;
-    const mine = ++running, from = source;
+    const mine = ++running;
     busy('read');
-    try {
-        if (!worker) await begin();
-        if (!opened) {
-            const found = await ask('open', from);
-            if (from !== source) return;
-            opened = found;
-            proportion('width');
+    turn = turn.then(async () => {
+        if (mine !== running) return;
+        try {
+            await cutNow(() => mine === running);
+        } catch (error) {
+            if (mine !== running) return;
+            showList(null);
+            complain(error.message);
         }
-        if (mine !== running) return;
-        const found = await ask('cut', { limit: Number(at('limit').value) || -1, waste: at('waste').checked });
-        if (mine !== running) return found.image.close();
-        showList(found);
-    } catch (error) {
-        if (mine !== running) return;
-        showList(null);
-        complain(error.message);
+        if (mine === running) busy(null);
+    });
+}
+
+async function cutNow(wanted) {
+    if (!worker) await begin();
+    if (!opened) {
+        opened = await ask('open', source);
+        if (!wanted()) return;
+        proportion('width');
     }
-    if (mine === running) busy(null);
+    const found = await ask('cut', { limit: Number(at('limit').value) || -1, waste: at('waste').checked });
+    if (wanted()) showList(found);
+    else found.image.close();
 }
 
 function choose(next) {
     source = next;
-    opened = null;
+    turn = turn.then(() => { opened = null; });
     for (const button of document.querySelectorAll('[data-picture]')) button.setAttribute('aria-pressed', String(button.dataset.picture === next.name));
     cut();
 }
 
 function stop() {
-    worker.terminate();
-    worker = opened = null;
-    waiting.clear();
     running++;
+    worker?.terminate();
+    worker = opened = null;
+    giveUp('Stopped.');
+    showList(null);
     busy(null);
     complain('Stopped. Change a control or choose a picture to go on.');
 }
@@ -194,11 +204,14 @@ const keys = {
 
 /** Puts the faces into the order of the chosen column; equal ones stay in their own. */
 function order() {
-    const wanted = at('only-hanging').checked, count = list?.counts.faces ?? 0;
-    faces = Uint32Array.from({ length: count }, (_, face) => face);
-    if (wanted) faces = faces.filter((face) => list.hangs[face]);
+    const hanging = at('only-hanging').checked, count = list?.counts.faces ?? 0;
+    faces = new Uint32Array(count);
+    let filled = 0;
+    for (let face = 0; face < count; face++) if (!hanging || list.hangs[face]) faces[filled++] = face;
+    faces = faces.subarray(0, filled);
     if (column !== 'face' || falling) {
-        const values = Float64Array.from({ length: count }, (_, face) => keys[column](face)), sign = falling ? -1 : 1;
+        const values = new Float64Array(count), sign = falling ? -1 : 1;
+        for (let face = 0; face < count; face++) values[face] = keys[column](face);
         faces.sort((a, b) => sign * (values[a] - values[b]) || a - b);
     }
     for (const head of document.querySelectorAll('th')) {

@@ -165,7 +165,8 @@ test('colours are labels in the order of first appearance, transparent pixels ar
     colours.add(Uint8ClampedArray.of(0, 0, 0, 128, 9, 8, 7, 255));
     assert.deepEqual([...colours.map(true).labels], [0, OUTSIDE, 1, 0]);
     assert.deepEqual([...colours.map(false).labels], [0, 2, 1, 0]);
-    assert.deepEqual([...colours.map(false).colours.subarray(0, 9)], [9, 8, 7, 0, 0, 0, 255, 255, 255]);
+    assert.deepEqual([...colours.map(false).colours], [9, 8, 7, 0, 0, 0, 255, 255, 255]);
+    assert.equal(colours.map(true).paints, 2);
 });
 
 test('near colours become one veneer', { skip: !library.has('merge') }, () => {

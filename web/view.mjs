@@ -282,12 +282,16 @@ export class View {
     corners() {
         const { brush, canvas, list, scale, left, top, ratio, outline } = this, found = list.hangingCorners;
         const radius = Math.min(7, Math.max(2, scale / ratio)) * ratio;
-        let rings = [];
-        for (let i = 0; i < found.length; i += 3) {
-            const x = (found[i] - left) * scale, y = (found[i + 1] - top) * scale;
-            if (x > -radius && y > -radius && x < canvas.width + radius && y < canvas.height + radius) rings.push([x, y, found[i + 2]]);
-        }
-        if (rings.length > MOST_RINGS) rings = rings.filter(([, , face]) => face === outline?.face);
+        const inSight = (wanted) => {
+            const rings = [];
+            for (let i = 0; i < found.length && rings.length <= MOST_RINGS; i += 3) {
+                const x = (found[i] - left) * scale, y = (found[i + 1] - top) * scale;
+                if (x > -radius && y > -radius && x < canvas.width + radius && y < canvas.height + radius && wanted(found[i + 2])) rings.push([x, y]);
+            }
+            return rings;
+        };
+        let rings = inSight(() => true);
+        if (rings.length > MOST_RINGS) rings = inSight((face) => face === outline?.face);
         brush.setTransform(1, 0, 0, 1, 0, 0);
         brush.beginPath();
         for (const [x, y] of rings) {

@@ -129,11 +129,14 @@ function explained(error) {
     return `Something went wrong: ${error.message}`;
 }
 
-self.onmessage = async ({ data: { id, job, ...rest } }) => {
+async function handle({ id, job, ...rest }) {
     try {
         const [answer, moved = []] = await jobs[job](rest);
         postMessage({ id, answer }, moved);
     } catch (error) {
         postMessage({ id, problem: explained(error) });
     }
-};
+}
+
+let last = Promise.resolve(); // one job after another
+self.onmessage = ({ data }) => { last = last.then(() => handle(data)); };
