@@ -52,6 +52,13 @@ test('refusals have their number, and memory that cannot be had its message', ()
     assert.throws(() => cutOf(2, 2, 1, [0]), { name: 'Refused', number: 2 });
     assert.throws(() => library.cut({ width: 16384, height: 16384, paints: 1, labels: [], colours: grey(1) }), { name: 'NoMemory', message: /9\.7 GB .* at most 4 GB/ });
     assert.ok(bytesBefore(10900, 10900) < MOST_BYTES);
+    const { grow } = WebAssembly.Memory.prototype;
+    WebAssembly.Memory.prototype.grow = () => { throw new RangeError('no more'); };
+    try {
+        assert.throws(() => cutOf(300, 300, 1, new Uint32Array(90000)), { name: 'NoMemory', message: /has not that much/ });
+    } finally {
+        WebAssembly.Memory.prototype.grow = grow;
+    }
 });
 
 test('a hole, and pieces that hang by a corner', () => {
@@ -167,6 +174,15 @@ test('colours are labels in the order of first appearance, transparent pixels ar
     assert.deepEqual([...colours.map(false).labels], [0, 2, 1, 0]);
     assert.deepEqual([...colours.map(false).colours], [9, 8, 7, 0, 0, 0, 255, 255, 255]);
     assert.equal(colours.map(true).paints, 2);
+});
+
+test('a library with the first calls alone', async () => {
+    const bytes = Buffer.from((await readFile(new URL('mosaic.wasm', import.meta.url))).toString('latin1').replace(/mosaic_(?=merge|move|veneer)/g, 'hidden_'), 'latin1');
+    const less = await compile(bytes);
+    assert.deepEqual(['whole', 'merge', 'move', 'veneer'].map((name) => less.has(name)), [true, false, false, false]);
+    const found = less.cut({ width: 2, height: 1, paints: 2, labels: [0, 1], colours: grey(2), limit: 765 });
+    assert.deepEqual([countsOf(found), found.sums, found.paints], ['2 3 10 4 2 2 7', null, 2]);
+    assert.equal(less.millimetres(2, 1, 300, 200), null);
 });
 
 test('near colours become one veneer', { skip: !library.has('merge') }, () => {
