@@ -94,6 +94,10 @@ async function cutNow(wanted) {
         opened = await ask('open', source);
         if (!wanted()) return;
         proportion('width');
+        if (at('keep').checked && !sides().every(allowed)) { // a very tall picture: as high a sheet as there is
+            at('sheet-height').value = LONGEST_SHEET;
+            proportion('height');
+        }
     }
     const found = await ask('cut', { limit: Number(at('limit').value) || -1, waste: at('waste').checked });
     if (wanted()) showList(found);
