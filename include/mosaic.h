@@ -43,8 +43,8 @@
  *   16     a side of the sheet is not above 0 (or is no number), or is above 3000    (sheet_whole, after 9)
  *   17     before a merge, the colours have another length than 3 x paints bytes,
  *          or the region store is shorter than 12 x paints words                     (merge, after 3)
- *   19     the paint count is above 65535                                            (write, after 9 and before 13)
  *   18     there are fewer than eight answer words for each map                      (tray, before all others)
+ *   19     the paint count is above 65535                                            (write, after 9 and before 13)
  *
  *                        after 1, 2, 3     after 4 to 9, and 16      after 0
  *   counts               all 0             the map's true counts     the map's true counts
@@ -116,9 +116,7 @@ enum mosaic_number {
     MOSAIC_BAD_SHEET = 16,
     MOSAIC_MERGE_STORES = 17,
     MOSAIC_SHORT_ANSWERS = 18,
-    MOSAIC_TOO_MANY_PAINTS = 19,
-    MOSAIC_SHORT_LISTING = 13,
-    MOSAIC_SHORT_ANSWERS = 18
+    MOSAIC_TOO_MANY_PAINTS = 19
 };
 
 enum mosaic_direction { MOSAIC_NORTH = 0, MOSAIC_EAST = 1, MOSAIC_SOUTH = 2, MOSAIC_WEST = 3 };

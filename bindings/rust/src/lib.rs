@@ -23,14 +23,14 @@
 mod assemble;
 mod cutter;
 pub mod ffi;
-pub mod layers;
 pub mod jobs;
+pub mod layers;
 mod list;
 pub mod listing;
 mod merge;
 pub mod sheet;
-mod veneer;
 pub mod tray;
+mod veneer;
 
 pub use assemble::{assemble, Graph, NotAssembled};
 pub use cutter::{cut, cut_in, Cutter, Map, Mode, Refusal};
@@ -40,5 +40,5 @@ pub use list::{
 };
 pub use merge::{merge_similar, merge_words, Merged, Unmerged, REGION_WORDS};
 pub use sheet::{cut_on_sheet, Move, Moves, OnSheet, Sheet};
-pub use veneer::veneer;
 pub use tray::{tray, Tile};
+pub use veneer::veneer;
