@@ -1,4 +1,4 @@
-"""The job file and the salvage tool, from the prose of document 02 (#109, #113), over rules.py.
+"""The job file and the salvage tool, from the rules of #109 and #113, over rules.py.
 
 file_of(map)                the bytes of an accepted map
 write(map, stores)          number, counts, length and every store afterwards

@@ -1,4 +1,4 @@
-"""The cut list of a map, from the prose of document 01: solve(width, height, paints, labels). Small maps; nothing is made fast."""
+"""The cut list of a map, from the rules in words: solve(width, height, paints, labels). Small maps; nothing is made fast."""
 from collections import namedtuple
 
 OUTSIDE = NONE = 4294967295

@@ -1,4 +1,4 @@
--- The job file of a map, byte for byte, and the writer's outcome (document 02, #109).
+-- The job file of a map, byte for byte, and the writer's outcome (docs/RULES.md, #109).
 use Prim.Native.Nat.{ℕ, _*_, _/_, _%_}
 use mathlib.Core.Bool.{true, false}
 use mathlib.Core.List.{List, [], _∷_, _++_, map}

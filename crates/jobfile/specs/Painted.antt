@@ -1,4 +1,4 @@
--- The picture that a file's faces paint, and the reader's outcome for any bytes (document 02, #109).
+-- The picture that a file's faces paint, and the reader's outcome for any bytes (docs/RULES.md, #109).
 use Prim.Native.Nat.{ℕ, zero, suc, _+_, _*_, _/_, _%_, _≤_}
 use mathlib.Core.Bool.{Bool, true, false, cond, not, _&&_}
 use mathlib.Core.Path.{_≡_}

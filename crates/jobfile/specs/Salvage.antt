@@ -1,4 +1,4 @@
--- What the salvage tool keeps of a file (document 02, #113): the records before the first that is cut short or breaks the form of #109.
+-- What the salvage tool keeps of a file (docs/RULES.md, #113): the records before the first that is cut short or breaks the form of #109.
 use Prim.Native.Nat.{ℕ, zero, suc, _+_, _-_, _/_, _%_}
 use mathlib.Core.Bool.{Bool, true, false, not, _&&_, _||_}
 use mathlib.Core.List.{List, [], _∷_}

@@ -1,4 +1,4 @@
--- The file that the words of the stores come to, whatever they are, and bytes put into a store (document 02, #109).
+-- The file that the words of the stores come to, whatever they are, and bytes put into a store (docs/RULES.md, #109).
 use Prim.Native.Nat.{ℕ, _+_, _*_, _≤_, min}
 use mathlib.Core.Path.{_≡_}
 use mathlib.Core.List.{List, [], _∷_, _++_, map}
