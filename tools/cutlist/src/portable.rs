@@ -1,7 +1,8 @@
-//! PNG, by the crate `png`; that the file has an end is asked here, since the crate stops at the last row.
+//! PNG, by the crate `png`. It is lent only the parts that tell the pixels, and that the file has an end is asked here, since the crate stops
+//! at the last row.
 
 use std::fs::File;
-use std::io::{self, BufReader, Read, Seek, SeekFrom};
+use std::io::{self, Read, Seek, SeekFrom};
 
 use png::{BitDepth, ColorType, Decoder, DecodingError, Limits, Reader, Transformations};
 
@@ -15,10 +16,14 @@ pub fn open(mut file: File) -> Result<Box<dyn Source>, Failure> {
     if sides.0.max(sides.1) > LONGEST_SIDE {
         return Ok(Box::new(Unread(sides)));
     }
-    whole(&mut file)?;
-    let mut decoder = Decoder::new_with_limits(BufReader::new(file), Limits { bytes: 1 << 28 });
+    let parts = needed(&mut file)?.into_iter();
+    let file = Parts {
+        file,
+        parts,
+        left: 0,
+    };
+    let mut decoder = Decoder::new_with_limits(file, Limits { bytes: 1 << 28 });
     decoder.set_transformations(Transformations::EXPAND);
-    decoder.set_ignore_text_chunk(true);
     Ok(Box::new(decoder.read_info().map_err(damaged)?))
 }
 
@@ -45,27 +50,64 @@ fn header(file: &mut File) -> Result<(u32, u32), Failure> {
     }
 }
 
-/// Goes from chunk to chunk up to the end, and back to the start.
-fn whole(file: &mut File) -> Result<(), Failure> {
-    file.seek(SeekFrom::Start(8)).map_err(cut_short)?;
-    let mut chunk = [0; 8];
+/// Goes from chunk to chunk up to the end. Gives the parts of the file, as start and length, that tell the pixels: what else a PNG may hold
+/// (texts, profiles, the frames of an animation) is not looked at, and so cannot do harm.
+fn needed(file: &mut File) -> Result<Vec<(u64, u64)>, Failure> {
+    let mut at = 8;
+    let mut parts: Vec<(u64, u64)> = vec![(0, at)];
     loop {
+        file.seek(SeekFrom::Start(at)).map_err(cut_short)?;
+        let mut chunk = [0; 8];
         file.read_exact(&mut chunk).map_err(cut_short)?;
-        let length = u32::from_be_bytes([chunk[0], chunk[1], chunk[2], chunk[3]]);
-        if &chunk[4..] == b"IEND" {
+        let [a, b, c, d, name @ ..] = chunk;
+        let length = 12 + u64::from(u32::from_be_bytes([a, b, c, d]));
+        match &name {
+            b"IHDR" | b"PLTE" | b"tRNS" | b"IDAT" | b"IEND" => match parts.last_mut() {
+                Some((start, long)) if *start + *long == at => *long += length,
+                _ => parts.push((at, length)),
+            },
+            [b'a'..=b'z', ..] => (),
+            _ => {
+                return Err(Failure::refused(
+                    "the PNG is damaged: it has a part of no known kind",
+                ))
+            }
+        }
+        at += length;
+        if &name == b"IEND" {
             break;
         }
-        file.seek(SeekFrom::Current(i64::from(length) + 4))
-            .map_err(cut_short)?;
     }
     let mut check = [0; 4];
+    file.seek(SeekFrom::Start(at - 4)).map_err(cut_short)?;
     file.read_exact(&mut check).map_err(cut_short)?;
-    file.seek(SeekFrom::Start(0)).map_err(cut_short)?;
     match check {
-        [0xae, 0x42, 0x60, 0x82] => Ok(()),
+        [0xae, 0x42, 0x60, 0x82] => Ok(parts),
         _ => Err(Failure::refused(
             "the PNG is damaged: its end has a wrong checksum",
         )),
+    }
+}
+
+/// Parts of a file, read one after another.
+struct Parts {
+    file: File,
+    parts: std::vec::IntoIter<(u64, u64)>,
+    left: u64,
+}
+
+impl Read for Parts {
+    fn read(&mut self, room: &mut [u8]) -> io::Result<usize> {
+        while self.left == 0 {
+            let Some((start, length)) = self.parts.next() else {
+                return Ok(0);
+            };
+            self.file.seek(SeekFrom::Start(start))?;
+            self.left = length;
+        }
+        let count = self.file.by_ref().take(self.left).read(room)?;
+        self.left -= count as u64;
+        Ok(count)
     }
 }
 
@@ -82,7 +124,7 @@ impl Source for Unread {
     }
 }
 
-impl Source for Reader<BufReader<File>> {
+impl Source for Reader<Parts> {
     fn sides(&self) -> (u32, u32) {
         self.info().size()
     }
@@ -101,7 +143,6 @@ impl Source for Reader<BufReader<File>> {
         for Line { first, step, y } in lines {
             let pixels = (width as usize - first).div_ceil(step);
             let line = self.next_row().map_err(damaged)?;
-            // The picture of an animation may be smaller than the animation.
             let Some(line) = line.filter(|line| line.data().len() == pixels * bytes) else {
                 return Err(Failure::refused(
                     "the PNG is damaged: there are not as many pixels as it says",
