@@ -42,6 +42,7 @@
  *   16     a side of the sheet is not above 0 (or is no number), or is above 3000    (sheet_whole, after 9)
  *   17     before a merge, the colours have another length than 3 x paints bytes,
  *          or the region store is shorter than 12 x paints words                     (merge, after 3)
+ *   18     there are fewer than eight answer words for each map                      (tray, before all others)
  *
  *                        after 1, 2, 3     after 4 to 9, and 16      after 0
  *   counts               all 0             the map's true counts     the map's true counts
@@ -109,7 +110,8 @@ enum mosaic_number {
     MOSAIC_MERGE_STORES = 17,
     MOSAIC_LAYERS_NOT_WHOLE = 11,
     MOSAIC_STRANGE_GRAPH = 15,
-    MOSAIC_SHORT_LISTING = 13
+    MOSAIC_SHORT_LISTING = 13,
+    MOSAIC_SHORT_ANSWERS = 18
 };
 
 enum mosaic_direction { MOSAIC_NORTH = 0, MOSAIC_EAST = 1, MOSAIC_SOUTH = 2, MOSAIC_WEST = 3 };
@@ -347,6 +349,31 @@ void mosaic_veneer(uint32_t mode, uint32_t width, uint32_t height, uint32_t pain
                    uint32_t *work, mosaic_length work_len,
                    int64_t *sums, mosaic_length sums_len,
                    mosaic_answer *answer);
+
+/*
+ * A TRAY. Many small maps in one call, over one label store and one set of stores, in one mode. `maps` has three words for each map: width,
+ * height, paints; an unfinished three at its end is ignored. A map's labels are the next width x height ones, whether it is refused or not.
+ *
+ * Each map gets what mosaic_whole gives with the whole work store and the rest of each output store behind the records of the maps before
+ * it, its records numbered from 0. So its first node stands behind the nodes of the maps before it, which their answers count; a refused
+ * map has no records. Its answer is the next eight words of `answers`, a mosaic_answer.
+ *
+ * 2 is also the number of the first map whose labels run past the label store, and of every later one, unless 1 applies to it.
+ *
+ * Returns 18 (MOSAIC_SHORT_ANSWERS), with nothing written, when `answers` has fewer than eight words for each map; else 0. Labels and answer
+ * words behind the last map's are not touched.
+ */
+uint32_t mosaic_tray(uint32_t mode,
+                     const uint32_t *maps, mosaic_length maps_len,
+                     const uint32_t *labels, mosaic_length labels_len,
+                     uint32_t *work, mosaic_length work_len,
+                     uint32_t *nodes, mosaic_length nodes_len,
+                     uint32_t *segments, mosaic_length segments_len,
+                     uint32_t *points, mosaic_length points_len,
+                     uint32_t *references, mosaic_length references_len,
+                     uint32_t *contours, mosaic_length contours_len,
+                     uint32_t *faces, mosaic_length faces_len,
+                     uint32_t *answers, mosaic_length answers_len);
 
 #ifdef __cplusplus
 }

@@ -167,7 +167,7 @@ impl Cutter {
 }
 
 /// The longest side that the library takes.
-const LONGEST_SIDE: usize = 16_384;
+pub(crate) const LONGEST_SIDE: usize = 16_384;
 
 /// A store of records, as the library takes it: a pointer and a length in words.
 pub(crate) fn lent<const N: usize>(store: &mut [[u32; N]]) -> (*mut u32, usize) {

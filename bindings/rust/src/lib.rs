@@ -28,6 +28,7 @@ mod list;
 pub mod listing;
 mod merge;
 pub mod sheet;
+pub mod tray;
 
 pub use assemble::{assemble, Graph, NotAssembled};
 pub use cutter::{cut, cut_in, Cutter, Map, Mode, Refusal};
@@ -37,3 +38,4 @@ pub use list::{
 };
 pub use merge::{merge_similar, merge_words, Merged, Unmerged, REGION_WORDS};
 pub use sheet::{cut_on_sheet, Move, Moves, OnSheet, Sheet};
+pub use tray::{tray, Tile};

@@ -5,6 +5,7 @@ pub mod listings;
 pub mod measuring;
 pub mod merging;
 pub mod on_sheet;
+pub mod trays;
 
 use calls::Answer;
 ghost use mathlib.Core.Path.{_≡_};
