@@ -11,6 +11,7 @@ EXAMPLES
   cutlist panel.png --sheet 600x400 --format moves -o -    the machine's moves, one a line, on standard output
   cutlist panel.png --merge 24 --report veneer.csv         near colours joined; how much veneer is in each piece
   cutlist panel.png --only 3 -o leaf.svg                   the pieces of one veneer
+  cutlist panel.png --job panel.job                        the cut list as a job file, to pass on
 
 PICTURES
   PNG (1 to 16 bits, palette, grey, RGB, alpha, interlaced) and binary PPM and PGM, up to 16384 pixels a side. Each colour, in 8 bits a
@@ -54,6 +55,10 @@ pub struct Arguments {
     /// Writes a table (CSV) of the pieces: pixels, bounding box, length of the outline, first pixel
     #[arg(long, value_name = "FILE")]
     pub report: Option<PathBuf>,
+
+    /// Writes the cut list of the whole picture as a job file
+    #[arg(long, value_name = "FILE")]
+    pub job: Option<PathBuf>,
 
     /// Only the pieces of this region; may be given more than once
     #[arg(long, value_name = "REGION")]

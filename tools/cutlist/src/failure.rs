@@ -74,6 +74,15 @@ impl From<mosaic::Refusal> for Failure {
     }
 }
 
+impl From<mosaic::jobs::WriteRefusal> for Failure {
+    fn from(refusal: mosaic::jobs::WriteRefusal) -> Failure {
+        Failure::Refused {
+            number: refusal.number(),
+            meaning: refusal.to_string(),
+        }
+    }
+}
+
 impl From<mosaic::Unmerged> for Failure {
     fn from(unmerged: mosaic::Unmerged) -> Failure {
         let number = match unmerged {

@@ -65,14 +65,15 @@ fn run(asked: &Arguments) -> Result<(), Failure> {
     if let Some(least) = asked.speckles {
         speckles(&pieces, least);
     }
-    write(asked, &cut, &pieces, &scale, progress)
+    write(asked, &picture, &cut, &pieces, &scale, progress)
 }
 
 /// Whether the words of the command line go together.
 fn sensible(asked: &Arguments) -> Result<(), Failure> {
-    if asked.output.is_none() && asked.report.is_none() && asked.speckles.is_none() {
+    let files = [&asked.output, &asked.report, &asked.job];
+    if files.iter().all(|file| file.is_none()) && asked.speckles.is_none() {
         return Err(Failure::Misused(
-            "nothing is asked for: say -o FILE, --report FILE or --speckles N".into(),
+            "nothing is asked for: say -o FILE, --report FILE, --job FILE or --speckles N".into(),
         ));
     }
     if asked.output.is_some() && asked.format() == Format::Moves && asked.sheet.is_none() {
@@ -85,6 +86,7 @@ fn sensible(asked: &Arguments) -> Result<(), Failure> {
         Some(&asked.picture),
         asked.output.as_ref(),
         asked.report.as_ref(),
+        asked.job.as_ref(),
     ];
     let places: Vec<_> = places
         .into_iter()
@@ -208,6 +210,7 @@ fn speckles(pieces: &Pieces, least: u64) {
 
 fn write(
     asked: &Arguments,
+    picture: &Picture,
     cut: &Cut,
     pieces: &Pieces,
     scale: &Scale,
@@ -238,6 +241,12 @@ fn write(
     if let Some(path) = &asked.report {
         let stage = progress.stage("reporting", count);
         outputs.write(path, |out| report::write(out, pieces, scale, &stage))?;
+        stage.done(&path.display().to_string());
+    }
+    if let Some(path) = &asked.job {
+        let stage = progress.stage("job file", 0);
+        let bytes = mosaic::jobs::write(picture.map())?;
+        outputs.write(path, |out| out.write_all(&bytes))?;
         stage.done(&path.display().to_string());
     }
     outputs.rename()

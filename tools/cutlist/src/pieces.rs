@@ -131,7 +131,7 @@ fn add(turns: &mut Vec<Point>, corner: Point) {
     turns.push(corner);
 }
 
-/// Pixels inside a contour with these turns, those of a hole counted down. To be the library's `mosaic_veneer` once the binding has it.
+/// Pixels inside a contour with these turns, those of a hole counted down: over a face's contours what `mosaic_veneer` gives, contour by contour.
 pub fn sum(turns: &[Point]) -> i64 {
     let next = turns.iter().cycle().skip(1);
     let east = |(a, b): (&Point, &Point)| i64::from(a.y) * (i64::from(b.x) - i64::from(a.x));
