@@ -69,21 +69,21 @@ export function* dxf(list, sheet, { x, y }) {
     yield groups(0, 'ENDSEC', 0, 'EOF');
 }
 
-/** A piece's bounding box, and how long its outlines and the rims of its holes are. */
-function measured({ faces, contours: { corners, starts }, holes }, face, { x, y }) {
-    const box = [Infinity, Infinity, 0, 0], lengths = [0, 0], first = faces[5 * face + 1];
+/** A piece's bounding box, and how long its outlines and the rims of its holes are: sides of pixels are counted, then multiplied and divided as a place is. */
+function measured({ width, height, faces, contours: { corners, starts }, holes }, face, [wide, high], { x, y }) {
+    const box = [Infinity, Infinity, 0, 0], level = [0, 0], upright = [0, 0], first = faces[5 * face + 1];
     for (let contour = first; contour < first + faces[5 * face + 2]; contour++) {
-        let length = 0;
         for (let i = starts[contour]; i < starts[contour + 1]; i++) {
             const next = i + 1 < starts[contour + 1] ? i + 1 : starts[contour], column = corners[2 * i], row = corners[2 * i + 1];
-            length += Math.abs(x[column] - x[corners[2 * next]]) + Math.abs(y[row] - y[corners[2 * next + 1]]);
+            level[holes[contour]] += Math.abs(column - corners[2 * next]);
+            upright[holes[contour]] += Math.abs(row - corners[2 * next + 1]);
             box[0] = Math.min(box[0], column);
             box[1] = Math.min(box[1], row);
             box[2] = Math.max(box[2], column);
             box[3] = Math.max(box[3], row);
         }
-        lengths[holes[contour]] += length;
     }
+    const lengths = [0, 1].map((kind) => level[kind] * wide / width + upright[kind] * high / height);
     return [x[box[0]], y[box[1]], x[box[2]], y[box[3]], ...lengths].map(decimal);
 }
 
@@ -92,7 +92,7 @@ export function* csv(list, sheet, millimetres) {
     yield 'region,colour,first_x,first_y,pixels,left_mm,top_mm,right_mm,bottom_mm,outline_mm,holes_mm\n';
     for (let face = 0; face < list.counts.faces; face++) {
         const [region, , , x, y] = list.faces.subarray(5 * face, 5 * face + 5);
-        yield `${[region, colourOf(list, region), x, y, list.sums[face], ...measured(list, face, millimetres)].join(',')}\n`;
+        yield `${[region, colourOf(list, region), x, y, list.sums[face], ...measured(list, face, sheet, millimetres)].join(',')}\n`;
     }
 }
 
