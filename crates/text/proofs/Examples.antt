@@ -10,6 +10,7 @@ use Rattle.rules.specs.Calls.{cuts, cutList, counted}
 use Rattle.text.specs.Bytes.{bytes}
 use Rattle.text.specs.Grammar.{digits, decimal, atMost, label as entry, longer, upTo, before, reading, readNumber, moreDigits, readLabel, entries, line, after, lines, readHeader}
 use Rattle.text.specs.Parse.{whole, body, small, parsed}
+use Rattle.text.specs.Mark.{summed, eastward, stepEast, segmentEast, referenceEast, contourEast, outlined}
 use Rattle.text.specs.Output.{shownIn, shown, field, optional, way, reference, point, fieldAt, optionalAt, referenceAt, pointAt, pieces, mapLine, countLine, nodeLine, segLine, letter, contLine, faceLines, report}
 use Rattle.text.specs.Program.{printed, answered, textmap}
 
@@ -46,7 +47,7 @@ pub record Examples : Type 0 where
   pub carriage-return : textmap (bytes "2 1 2\r\n0 1\r\n") ≡ bytes "bad text\n"
 
 pub examples : Examples
-unfolding keep flat upto among seen label northwest picture sameDart toX toY turned leftAt left right crack degree node wayOn onward following meets ending walk fuel on visit trace row rows out corners nodes segments pixels labelOf lesser lesser3 least rounds firsts backwards refs steps firstStep lastStep outEntry keeps successor turn region isOpen next round enter discover contours insert sorted islands besideAt islandOf face faces nodeRecord nodeWords nodeAt pointRecords pointWords segmentWords contoursOf contourWords faceWords cuts cutList counted digits decimal atMost entry longer upTo before reading readNumber moreDigits readLabel entries line after lines readHeader whole body small parsed shownIn shown field optional way reference point fieldAt optionalAt referenceAt pointAt pieces mapLine countLine nodeLine segLine letter contLine faceLines report printed answered textmap
+unfolding keep flat upto among seen label northwest picture sameDart toX toY turned leftAt left right crack degree node wayOn onward following meets ending walk fuel on visit trace row rows out corners nodes segments pixels labelOf lesser lesser3 least rounds firsts backwards refs steps firstStep lastStep outEntry keeps successor turn region isOpen next round enter discover contours insert sorted islands besideAt islandOf face faces nodeRecord nodeWords nodeAt pointRecords pointWords segmentWords contoursOf contourWords faceWords cuts cutList counted digits decimal atMost entry longer upTo before reading readNumber moreDigits readLabel entries line after lines readHeader whole body small parsed shownIn shown field optional way reference point fieldAt optionalAt referenceAt pointAt pieces mapLine countLine nodeLine segLine summed eastward stepEast segmentEast referenceEast contourEast outlined letter contLine faceLines report printed answered textmap
 examples = record {
   example = refl;
   narrow = refl;

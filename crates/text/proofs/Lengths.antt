@@ -1,5 +1,6 @@
 -- How many bytes are printed: for a number by its digits, and for each line by how large the words are that it prints.
 use Prim.Native.Nat.{ℕ, zero, suc, _+_, _*_, _/_, _%_, _^_, _<_, _≤_}
+use mathlib.Core.Bool.{Bool, true, false}
 use mathlib.Core.Path.{_≡_, ap, _∙_}
 use mathlib.Core.Logic.{inl, inr}
 use mathlib.Core.List.{List, [], _∷_, _++_, map, List·Memᴰ as In}
@@ -15,8 +16,9 @@ use Rattle.rules.proofs.Ground.Lists.{length-upto}
 use Rattle.rules.proofs.Ground.Sums.{sum, sum-map, flat-length, sum-most, sum-linear}
 use Rattle.rules.proofs.CutList.Values.{Below, below-more, AtMost, most-at, NodeValues, SegmentValues}
 use Rattle.text.specs.Bytes.{bytes}
+use Rattle.text.specs.Mark.{outlined}
 use Rattle.text.specs.Output.{shown, field, optional, reference, point, fieldAt, optionalAt, referenceAt, pointAt, pieces, nodeLine, segLine, letter, contLine, faceLines}
-use Rattle.text.proofs.Printing.{shown-small, shown-big, optional-none, optional-some, reference-none, reference-forward, reference-reversed, letter-first, letter-other}
+use Rattle.text.proofs.Printing.{shown-small, shown-big, optional-none, optional-some, reference-none, reference-forward, reference-reversed}
 
 -- NUMBERS of so many digits
 
@@ -120,30 +122,28 @@ module _ {P : Picture} (w : P .w < 100) (h : P .h < 100) where
             (λ j n. point-short 1 (getD ps (2 * j) 0) (getD ps (2 * j + 1) 0) (omega (arith, most-at 99 ps p (2 * j))) (omega (arith, most-at 99 ps p (2 * j + 1)))),
       ))
 
-letter-short : (first k : ℕ) → length (letter first k) ≤ 2
-letter-short first k = go (ℕ-discrete k first)
-  where
-    go : Dec (k ≡ first) → length (letter first k) ≤ 2
-    go (yes e) = omega (arith, ap length (letter-first first k e))
-    go (no e) = omega (arith, ap length (letter-other first k e))
+letter-short : (b : Bool) → length (letter b) ≤ 2
+unfolding letter
+letter-short true = omega arith
+letter-short false = omega arith
 
 -- of a contour
 abbrev pub contourMost : List ℕ → ℕ → ℕ
 contourMost cs k = 7 + 5 * getD cs (2 * k + 1) 0
 
-module _ (cs rs : List ℕ) (h : AtMost 1999 rs) where
-  pub cont-short : (first k : ℕ) → length (contLine cs rs first k) ≤ contourMost cs k
+module _ (ss ps rs cs : List ℕ) (h : AtMost 1999 rs) where
+  pub cont-short : (k : ℕ) → length (contLine ss ps rs cs k) ≤ contourMost cs k
   unfolding contLine
-  cont-short first k =
+  cont-short k =
       simp length-append
       (omega (
         arith,
-        letter-short first k,
+        letter-short (outlined ss ps rs cs k),
         pieces-each (referenceAt rs) 5 (getD cs (2 * k + 1) 0) (getD cs (2 * k) 0) (λ j n. reference-at 2 rs j (inr (omega (arith, most-at 1999 rs h j)))),
       ))
 
   pub face-short : (fs : List ℕ) (i : ℕ) → i < 1000 → getD fs (5 * i) 0 ≤ NONE → getD fs (5 * i + 2) 0 < 1000 → getD fs (5 * i + 3) 0 < 100 → getD fs (5 * i + 4) 0 < 100
-      → length (faceLines fs cs rs i) ≤ 30 + sum (contourMost cs) (upto (getD fs (5 * i + 2) 0) (getD fs (5 * i + 1) 0))
+      → length (faceLines ss ps rs cs fs i) ≤ 30 + sum (contourMost cs) (upto (getD fs (5 * i + 2) 0) (getD fs (5 * i + 1) 0))
   unfolding faceLines
   face-short fs i m r n x y =
       let first = getD fs (5 * i + 1) 0 in
@@ -155,5 +155,5 @@ module _ (cs rs : List ℕ) (h : AtMost 1999 rs) where
         field-at 2 fs (5 * i + 2) (omega arith),
         field-at 1 fs (5 * i + 3) (omega arith),
         field-at 1 fs (5 * i + 4) (omega arith),
-        pieces-most (contLine cs rs first) (contourMost cs) (getD fs (5 * i + 2) 0) first (λ k j. cont-short first k),
+        pieces-most (contLine ss ps rs cs) (contourMost cs) (getD fs (5 * i + 2) 0) first (λ k j. cont-short k),
       ))

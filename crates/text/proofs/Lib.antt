@@ -3,12 +3,14 @@ pub mod Entries
 pub mod Parsing
 pub mod MapFacts
 pub mod Printing
+pub mod Marking
 pub mod Decimals
 pub mod Words
 pub mod Lengths
 pub mod RoundTrip
 pub mod OneText
 pub mod Room
+pub mod Outlines
 pub mod Padding
 pub mod Answers
 pub mod Arrays

@@ -1,9 +1,12 @@
 -- Zeros behind the words of a store print nothing else: a word past the end is 0.
-use Prim.Native.Nat.{ℕ, zero, suc, _+_, _*_}
+use Prim.Native.Nat.{ℕ, zero, suc, _+_, _*_, _/_, _%_}
+use mathlib.Core.Bool.{true, false}
 use mathlib.Core.Path.{_≡_, refl}
 use mathlib.Core.List.{List, [], _∷_, _++_}
+use lib.Dec.{ltb, eqb}
 use lib.ListN.{getD, drop, replicate}
 use Rattle.rules.specs.Calls.{Answer}
+use Rattle.text.specs.Mark.{eastward, stepEast, segmentEast, referenceEast, contourEast, outlined}
 use Rattle.text.specs.Output.{fieldAt, optionalAt, referenceAt, pointAt, nodeLine, segLine, contLine, faceLines, report}
 
 -- the same word at every place
@@ -57,22 +60,47 @@ reference-same {rs} {rs′} e = λ j i. each i j
     each : (i : ℕ) → referenceAt rs i ≡ referenceAt rs′ i
     each i = rw (e .word i)
 
-cont-same : {cs cs′ rs rs′ : List ℕ} → Same cs cs′ → Same rs rs′ → contLine cs rs ≡ contLine cs′ rs′
-unfolding contLine
-cont-same {cs} {cs′} {rs} {rs′} e r = λ j first k. each first k j
-  where
-    each : (first k : ℕ) → contLine cs rs first k ≡ contLine cs′ rs′ first k
-    each first k = rw (e .word (2 * k), e .word (2 * k + 1)) (rw (reference-same r))
+-- the mark of a contour
+eastward-same : {ps ps′ : List ℕ} → Same ps ps′ → (i j : ℕ) → eastward ps i j ≡ eastward ps′ i j
+unfolding eastward
+eastward-same p i j = λ t. elim (ltb (p .word (2 * i) t) (p .word (2 * j) t)) [ true ↦ p .word (2 * i + 1) t | false ↦ 0 ]
 
-face-same : {fs fs′ cs cs′ rs rs′ : List ℕ} → Same fs fs′ → Same cs cs′ → Same rs rs′ → faceLines fs cs rs ≡ faceLines fs′ cs′ rs′
-unfolding faceLines fieldAt
-face-same {fs} {fs′} {cs} {cs′} {rs} {rs′} e c r = λ j i. each i j
+step-same : {ps ps′ : List ℕ} → Same ps ps′ → (way : ℕ) → stepEast ps way ≡ stepEast ps′ way
+unfolding stepEast
+step-same p way = λ t i. elim (eqb way 0) [ true ↦ eastward-same p i (i + 1) t | false ↦ eastward-same p (i + 1) i t ]
+
+reference-east-same : {ss ss′ ps ps′ rs rs′ : List ℕ} → Same ss ss′ → Same ps ps′ → Same rs rs′ → (turn : ℕ) → referenceEast ss ps rs turn ≡ referenceEast ss′ ps′ rs′ turn
+unfolding referenceEast segmentEast
+reference-east-same {ss} {ss′} {ps} {ps′} {rs} {rs′} s p r turn = λ j i. each i j
   where
-    each : (i : ℕ) → faceLines fs cs rs i ≡ faceLines fs′ cs′ rs′ i
-    each i = rw (e .word (5 * i), e .word (5 * i + 1), e .word (5 * i + 2), e .word (5 * i + 3), e .word (5 * i + 4)) (rw (cont-same c r))
+    each : (i : ℕ) → referenceEast ss ps rs turn i ≡ referenceEast ss′ ps′ rs′ turn i
+    each i =
+        let n = getD rs′ i 0 in
+        rw (r .word i) (rw (s .word (8 * (n / 2)), s .word (8 * (n / 2) + 1), step-same p ((n + turn) % 2)))
+
+mark-same : {ss ss′ ps ps′ rs rs′ cs cs′ : List ℕ} → Same ss ss′ → Same ps ps′ → Same rs rs′ → Same cs cs′ → outlined ss ps rs cs ≡ outlined ss′ ps′ rs′ cs′
+unfolding outlined contourEast
+mark-same {ss} {ss′} {ps} {ps′} {rs} {rs′} {cs} {cs′} s p r c = λ j k. each k j
+  where
+    each : (k : ℕ) → outlined ss ps rs cs k ≡ outlined ss′ ps′ rs′ cs′ k
+    each k = rw (c .word (2 * k), c .word (2 * k + 1), reference-east-same s p r 0, reference-east-same s p r 1)
+
+cont-same : {ss ss′ ps ps′ rs rs′ cs cs′ : List ℕ} → Same ss ss′ → Same ps ps′ → Same rs rs′ → Same cs cs′ → contLine ss ps rs cs ≡ contLine ss′ ps′ rs′ cs′
+unfolding contLine
+cont-same {ss} {ss′} {ps} {ps′} {rs} {rs′} {cs} {cs′} s p r c = λ j k. each k j
+  where
+    each : (k : ℕ) → contLine ss ps rs cs k ≡ contLine ss′ ps′ rs′ cs′ k
+    each k = rw (c .word (2 * k), c .word (2 * k + 1)) (rw (reference-same r, mark-same s p r c))
+
+face-same : {ss ss′ ps ps′ rs rs′ cs cs′ fs fs′ : List ℕ} → Same ss ss′ → Same ps ps′ → Same rs rs′ → Same cs cs′ → Same fs fs′ → faceLines ss ps rs cs fs ≡ faceLines ss′ ps′ rs′ cs′ fs′
+unfolding faceLines fieldAt
+face-same {ss} {ss′} {ps} {ps′} {rs} {rs′} {cs} {cs′} {fs} {fs′} s p r c e = λ j i. each i j
+  where
+    each : (i : ℕ) → faceLines ss ps rs cs fs i ≡ faceLines ss′ ps′ rs′ cs′ fs′ i
+    each i = rw (e .word (5 * i), e .word (5 * i + 1), e .word (5 * i + 2), e .word (5 * i + 3), e .word (5 * i + 4)) (rw (cont-same s p r c))
 
 -- THE REPORT
 module _ {ns ns′ ss ss′ ps ps′ rs rs′ cs cs′ fs fs′ : List ℕ} (n : Same ns ns′) (s : Same ss ss′) (p : Same ps ps′) (r : Same rs rs′) (c : Same cs cs′) (f : Same fs fs′) where
   pub report-same : (w h paints : ℕ) (a : Answer) → report w h paints a ns ss ps rs cs fs ≡ report w h paints a ns′ ss′ ps′ rs′ cs′ fs′
   unfolding report
-  report-same w h paints a = rw (node-same n, seg-same s p, face-same f c r, report)
+  report-same w h paints a = rw (node-same n, seg-same s p, face-same s p r c f, report)

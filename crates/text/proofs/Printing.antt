@@ -13,7 +13,7 @@ use Rattle.rules.specs.Records.{NONE}
 use Rattle.store.proofs.Writes.{sets-append, sets-out}
 use Rattle.rules.proofs.Ground.Lists.{upto-snoc, flat-snoc}
 use Rattle.text.specs.Bytes.{bytes}
-use Rattle.text.specs.Output.{Printed, shownIn, shown, field, optional, way, reference, pieces, letter}
+use Rattle.text.specs.Output.{Printed, shownIn, shown, field, optional, way, reference, pieces}
 
 pub put-in : (out : List ℕ) (at b : ℕ) → at < length out → Printed out at (b ∷ []) (set out at b) (at + 1)
 put-in out at b h = record { held = refl; place = omega arith; within = rw (length-set out at b) (omega arith) }
@@ -127,11 +127,3 @@ partly-more {g} {n} {f} {i = i} k e h x y = record { few = omega arith; printed 
 
 pub partly-all : {g : ℕ → List ℕ} {n f at p i : ℕ} {out out₁ : List ℕ} → n ≤ i → Partly g n f out at out₁ p i → Printed out at (pieces g n f) out₁ p
 partly-all {g} {f = f} h x = printed-as (ap (λ (k : ℕ). pieces g k f) (omega (arith, x .few))) (x .printed)
-
-pub letter-first : (first k : ℕ) → k ≡ first → letter first k ≡ bytes " O"
-unfolding letter
-letter-first first k e = rw (eq-eqb k first e, letter)
-
-pub letter-other : (first k : ℕ) → (k ≡ first → ⊥) → letter first k ≡ bytes " H"
-unfolding letter
-letter-other first k e = rw (ne-eqb k first e, letter)

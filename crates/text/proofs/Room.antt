@@ -152,20 +152,20 @@ module _ (m : LabelledMap) (s : Small m) (labels : AtMost OUTSIDE (m .labels)) w
         exact .points,
       )
 
-  faces-short : length (pieces (faceLines (l .faces) (l .contours) (l .references)) (a .faces) 0) ≤ 30 * a .faces + 7 * a .contours + 5 * a .references
+  faces-short : length (pieces (faceLines (l .segments) (l .points) (l .references) (l .contours) (l .faces)) (a .faces) 0) ≤ 30 * a .faces + 7 * a .contours + 5 * a .references
   unfolding cutList cuts picture
   faces-short =
       let count : ℕ → ℕ = λ k. getD (l .contours) (2 * k + 1) 0 in
       let most : ℕ → ℕ = contourMost (l .contours) in
       omega (
         arith,
-        pieces-most (faceLines (l .faces) (l .contours) (l .references)) (λ i. 30 + 1 * ofFace most (l .faces) i) (a .faces) 0
+        pieces-most (faceLines (l .segments) (l .points) (l .references) (l .contours) (l .faces)) (λ i. 30 + 1 * ofFace most (l .faces) i) (a .faces) 0
             (λ i j.
             let b = upto-in (a .faces) 0 i j .1 in
             let p = placed-words F (describes F) (s .word) i (record { region = 0; first = 0; contours = [] }) (omega (arith, b, exact .faces)) in
             omega (
               arith,
-              face-short (l .contours) (l .references) small (l .faces) i (omega (arith, b, few .faces)) (region-values F (describes F) (s .word) (m .width) i)
+              face-short (l .segments) (l .points) (l .references) (l .contours) small (l .faces) i (omega (arith, b, few .faces)) (region-values F (describes F) (s .word) (m .width) i)
                   (omega (arith, contours-most (m .width) 0 found i, few .contours, exact .contours)) (omega (arith, p .across, s .narrow)) (omega (arith, p .down, s .low)),
             )),
         sum-linear 30 1 (ofFace most (l .faces)) (upto (a .faces) 0),

@@ -1,6 +1,6 @@
 -- What is printed: decimals, fields and lines (docs/RULES.md, "textmap").
 use Prim.Native.Nat.{ℕ, zero, suc, _+_, _*_, _/_, _%_, _≤_, min}
-use mathlib.Core.Bool.{true, false}
+use mathlib.Core.Bool.{Bool, true, false}
 use mathlib.Core.Path.{_≡_}
 use mathlib.Core.List.{List, [], _∷_, _++_, map}
 use lib.Dec.{ltb, eqb}
@@ -10,6 +10,7 @@ use Rattle.rules.specs.Lists.{flat, upto}
 use Rattle.rules.specs.Records.{NONE}
 use Rattle.rules.specs.Calls.{Answer}
 use Rattle.text.specs.Bytes.{bytes}
+use Rattle.text.specs.Mark.{outlined}
 
 -- A BUFFER that bytes are put into from a place on: what has no room is dropped. The place that follows is the buffer's length at most
 pub record Printed (out : List ℕ) (at : ℕ) (text : List ℕ) (out′ : List ℕ) (next : ℕ) : Type 0 where
@@ -86,20 +87,21 @@ segLine ss ps i =
     bytes "seg" ++ (field i ++ (optionalAt 45 ss (8 * i + 2) ++ (optionalAt 45 ss (8 * i + 3) ++ (optionalAt 46 ss (8 * i + 4) ++ (optionalAt 46 ss (8 * i + 5) ++
     (fieldAt ss (8 * i + 6) ++ (fieldAt ss (8 * i + 7) ++ (pieces (pointAt ps) (getD ss (8 * i + 1) 0) (getD ss (8 * i) 0) ++ bytes "\n"))))))))
 
--- `O` for the outline, which is the face's first contour, `H` for a hole
-unfoldable pub letter : ℕ → ℕ → List ℕ
-letter first k = elim (eqb k first) [ true ↦ bytes " O" | false ↦ bytes " H" ]
+-- `O` for an outline, `H` for a hole
+unfoldable pub letter : Bool → List ℕ
+letter true = bytes " O"
+letter false = bytes " H"
 
-unfoldable pub contLine : List ℕ → List ℕ → ℕ → ℕ → List ℕ
-contLine cs rs first k = bytes "cont" ++ (letter first k ++ (pieces (referenceAt rs) (getD cs (2 * k + 1) 0) (getD cs (2 * k) 0) ++ bytes "\n"))
+unfoldable pub contLine : List ℕ → List ℕ → List ℕ → List ℕ → ℕ → List ℕ
+contLine ss ps rs cs k = bytes "cont" ++ (letter (outlined ss ps rs cs k) ++ (pieces (referenceAt rs) (getD cs (2 * k + 1) 0) (getD cs (2 * k) 0) ++ bytes "\n"))
 
 -- face: number, region, contours, x and y of its first pixel; its `cont` lines follow
-unfoldable pub faceLines : List ℕ → List ℕ → List ℕ → ℕ → List ℕ
-faceLines fs cs rs i =
+unfoldable pub faceLines : List ℕ → List ℕ → List ℕ → List ℕ → List ℕ → ℕ → List ℕ
+faceLines ss ps rs cs fs i =
     bytes "face" ++ (field i ++ (fieldAt fs (5 * i) ++ (fieldAt fs (5 * i + 2) ++ (fieldAt fs (5 * i + 3) ++ (fieldAt fs (5 * i + 4) ++ (bytes "\n" ++
-    pieces (contLine cs rs (getD fs (5 * i + 1) 0)) (getD fs (5 * i + 2) 0) (getD fs (5 * i + 1) 0)))))))
+    pieces (contLine ss ps rs cs) (getD fs (5 * i + 2) 0) (getD fs (5 * i + 1) 0)))))))
 
 -- THE WHOLE REPORT of a map: its header, the counts and the stores
 unfoldable pub report : ℕ → ℕ → ℕ → Answer → List ℕ → List ℕ → List ℕ → List ℕ → List ℕ → List ℕ → List ℕ
 report w h p a ns ss ps rs cs fs =
-    mapLine w h p ++ (countLine a ++ (pieces (nodeLine ns) (a .nodes) 0 ++ (pieces (segLine ss ps) (a .segments) 0 ++ pieces (faceLines fs cs rs) (a .faces) 0)))
+    mapLine w h p ++ (countLine a ++ (pieces (nodeLine ns) (a .nodes) 0 ++ (pieces (segLine ss ps) (a .segments) 0 ++ pieces (faceLines ss ps rs cs fs) (a .faces) 0)))

@@ -1,5 +1,6 @@
 // The text of a map read, and its cut list printed: the whole of `textmap` between its input and its output.
 mod lines;
+mod mark;
 mod print;
 pub mod report;
 mod scan;

@@ -1,4 +1,5 @@
 // The lines of the answer, printed from the words of the stores. A word past the end of a store is read as 0.
+use crate::mark;
 use crate::print;
 use calls::Answer;
 use lattice::Size;
@@ -168,31 +169,33 @@ fn contour_references(
     q
 }
 
-// The contour k of a face whose outline is the contour `first`.
+// The contour k, with its mark.
 fn cont_line(
     out: &mut [u8],
     at: usize,
-    contours: &[u32],
+    segments: &[u32],
+    points: &[u32],
     references: &[u32],
-    first: usize,
+    contours: &[u32],
     k: usize,
 ) -> usize
     requires { ⌜ (at ≤ length (now out)) × (k < 8589934592) ⌝ }
-    ensures { λ r. ⌜ Printed (now (out .entry)) at (contLine (now (contours .entry)) (now (references .entry)) first k) (now (out .exit)) r ⌝ }
+    ensures { λ r. ⌜ Printed (now (out .entry)) at (contLine (now (segments .entry)) (now (points .entry)) (now (references .entry)) (now (contours .entry)) k) (now (out .exit)) r ⌝ }
 {
     let from = store::get(contours, 2 * k);
     let count = store::get(contours, 2 * k + 1);
+    let outline = mark::outlined(segments, points, references, contours, k);
     let q = print::word(out, at, b"cont");
-    let q = outline_or_hole(out, q, first, k);
+    let q = outline_or_hole(out, q, outline);
     let q = contour_references(out, q, references, from, count);
     print::byte(out, q, b'\n')
 }
 
-fn outline_or_hole(out: &mut [u8], at: usize, first: usize, k: usize) -> usize
+fn outline_or_hole(out: &mut [u8], at: usize, outline: bool) -> usize
     requires { ⌜ at ≤ length (now out) ⌝ }
-    ensures { λ r. ⌜ Printed (now (out .entry)) at (letter first k) (now (out .exit)) r ⌝ }
+    ensures { λ r. ⌜ Printed (now (out .entry)) at (letter outline) (now (out .exit)) r ⌝ }
 {
-    if k == first {
+    if outline {
         return print::word(out, at, b" O");
     }
     print::word(out, at, b" H")
@@ -201,19 +204,29 @@ fn outline_or_hole(out: &mut [u8], at: usize, first: usize, k: usize) -> usize
 fn cont_lines(
     out: &mut [u8],
     at: usize,
-    contours: &[u32],
+    segments: &[u32],
+    points: &[u32],
     references: &[u32],
+    contours: &[u32],
     first: u32,
     count: u32,
 ) -> usize
     requires { ⌜ at ≤ length (now out) ⌝ }
-    ensures { λ r. ⌜ Printed (now (out .entry)) at (pieces (contLine (now (contours .entry)) (now (references .entry)) first) count first) (now (out .exit)) r ⌝ }
+    ensures { λ r. ⌜ Printed (now (out .entry)) at (pieces (contLine (now (segments .entry)) (now (points .entry)) (now (references .entry)) (now (contours .entry))) count first) (now (out .exit)) r ⌝ }
 {
     let f = first as usize;
     let mut q = at;
     let mut i = 0;
     while i < count {
-        q = cont_line(out, q, contours, references, f, f + (i as usize));
+        q = cont_line(
+            out,
+            q,
+            segments,
+            points,
+            references,
+            contours,
+            f + (i as usize),
+        );
         i += 1;
     }
     q
@@ -223,13 +236,15 @@ fn cont_lines(
 fn face_lines(
     out: &mut [u8],
     at: usize,
-    faces: &[u32],
-    contours: &[u32],
+    segments: &[u32],
+    points: &[u32],
     references: &[u32],
+    contours: &[u32],
+    faces: &[u32],
     i: u32,
 ) -> usize
     requires { ⌜ at ≤ length (now out) ⌝ }
-    ensures { λ r. ⌜ Printed (now (out .entry)) at (faceLines (now (faces .entry)) (now (contours .entry)) (now (references .entry)) i) (now (out .exit)) r ⌝ }
+    ensures { λ r. ⌜ Printed (now (out .entry)) at (faceLines (now (segments .entry)) (now (points .entry)) (now (references .entry)) (now (contours .entry)) (now (faces .entry)) i) (now (out .exit)) r ⌝ }
 {
     let k = 5 * (i as usize);
     let first = store::get(faces, k + 1);
@@ -241,24 +256,26 @@ fn face_lines(
     let q = field_at(out, q, faces, k + 3);
     let q = field_at(out, q, faces, k + 4);
     let q = print::byte(out, q, b'\n');
-    cont_lines(out, q, contours, references, first, count)
+    cont_lines(out, q, segments, points, references, contours, first, count)
 }
 
 fn all_faces(
     out: &mut [u8],
     at: usize,
-    faces: &[u32],
-    contours: &[u32],
+    segments: &[u32],
+    points: &[u32],
     references: &[u32],
+    contours: &[u32],
+    faces: &[u32],
     count: u32,
 ) -> usize
     requires { ⌜ at ≤ length (now out) ⌝ }
-    ensures { λ r. ⌜ Printed (now (out .entry)) at (pieces (faceLines (now (faces .entry)) (now (contours .entry)) (now (references .entry))) count 0) (now (out .exit)) r ⌝ }
+    ensures { λ r. ⌜ Printed (now (out .entry)) at (pieces (faceLines (now (segments .entry)) (now (points .entry)) (now (references .entry)) (now (contours .entry)) (now (faces .entry))) count 0) (now (out .exit)) r ⌝ }
 {
     let mut q = at;
     let mut i = 0;
     while i < count {
-        q = face_lines(out, q, faces, contours, references, i);
+        q = face_lines(out, q, segments, points, references, contours, faces, i);
         i += 1;
     }
     q
@@ -282,5 +299,14 @@ pub fn print_report(
     let q = count_line(out, q, a);
     let q = node_lines(out, q, nodes, a.nodes);
     let q = seg_lines(out, q, segments, points, a.segments);
-    all_faces(out, q, faces, contours, references, a.faces)
+    all_faces(
+        out,
+        q,
+        segments,
+        points,
+        references,
+        contours,
+        faces,
+        a.faces,
+    )
 }

@@ -42,6 +42,10 @@ fn worked() {
         b"-- a corner touch, and a hole",
         b"4 4 2\n0 . . .\n. 0 0 0\n. 0 1 0\n. 0 0 0\n",
     );
+    shows(
+        b"-- a hole with nodes, before its rim",
+        b"4 3 3\n0 0 0 0\n0 1 2 0\n0 0 0 0\n",
+    );
 }
 
 // ODD INPUT

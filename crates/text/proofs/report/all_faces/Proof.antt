@@ -9,16 +9,16 @@ use Rattle.text.proofs.report.all_faces.Statement.{statement}
 use Rattle.text.proofs.report.all_faces.Tie as tie
 
 abbrev Inv-loop : tie.InvT-loop
-Inv-loop out₀ at faces contours references count q₀ i₀ out q i = Partly (faceLines faces contours references) count 0 out₀ at out q i
+Inv-loop out₀ at segments points references contours faces count q₀ i₀ out q i = Partly (faceLines segments points references contours faces) count 0 out₀ at out q i
 
 abbrev μ-loop : tie.MeasureT-loop
-μ-loop out₀ at faces contours references count q₀ i₀ out q i = count - i
+μ-loop out₀ at segments points references contours faces count q₀ i₀ out q i = count - i
 
 loop-holds : tie.Need-loop-holds Inv-loop μ-loop
 loop-holds c =
-    let start = c .before .before .before .before in
+    let start = c .before .before .before .before .before .before in
     let a = start .args in
-    partly-none (faceLines (now (a .faces)) (now (a .contours)) (now (a .references))) (a .count) 0 (now (a .out)) (a .at) (start .pre)
+    partly-none (faceLines (now (a .segments)) (now (a .points)) (now (a .references)) (now (a .contours)) (now (a .faces))) (a .count) 0 (now (a .out)) (a .at) (start .pre)
 
 face-lines-requires : tie.Need-face-lines-requires Inv-loop μ-loop
 face-lines-requires c κs = c .before .before .loop .inv .printed .within

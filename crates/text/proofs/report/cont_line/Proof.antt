@@ -1,6 +1,6 @@
 -- `text::report::cont_line` meets its contract.
-use mathlib.Core.Path.{ap₂}
-use Rattle.text.specs.Output.{pieces, referenceAt, contLine}
+use mathlib.Core.Path.{ap, ap₂}
+use Rattle.text.specs.Output.{pieces, referenceAt, letter, contLine}
 use Rattle.text.proofs.Printing.{_then_, printed-as}
 use borrow.Author.Needs.{needs}
 use Rattle.text.proofs.report.cont_line.Statement.{statement}
@@ -20,6 +20,9 @@ add-get c = search needs
 
 get-requires-2 : tie.Need-get-requires-2
 get-requires-2 c κs = search needs
+
+outlined-requires : tie.Need-outlined-requires
+outlined-requires c κs = search needs
 
 slice-aggregate-word : tie.Need-slice-aggregate-word
 slice-aggregate-word c = search needs
@@ -46,10 +49,11 @@ returns c =
     let at-contour-references = at-byte .before .before .before .before in
     let at-outline-or-hole = at-contour-references .before .before .before .before in
     let at-word = at-outline-or-hole .before .before .before .before in
-    let at-get2 = at-word .before .before .before in
+    let at-outlined = at-word .before .before .before in
+    let at-get2 = at-outlined .before in
     let at-get = at-get2 .before in
     at-word .word .ensures
-    then at-outline-or-hole .outline-or-hole .ensures
+    then printed-as (ap letter (at-outlined .outlined .ensures)) (at-outline-or-hole .outline-or-hole .ensures)
     then printed-as (ap₂ (pieces (referenceAt _)) (at-get2 .get2 .ensures) (at-get .get .ensures)) (at-contour-references .contour-references .ensures)
     then at-byte .byte .ensures
 
@@ -62,6 +66,7 @@ cont-line-spec =
     mul-get-2
     add-get
     get-requires-2
+    outlined-requires
     slice-aggregate-word
     word-requires
     outline-or-hole-requires

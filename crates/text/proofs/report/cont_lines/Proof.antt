@@ -9,16 +9,16 @@ use Rattle.text.proofs.report.cont_lines.Statement.{statement}
 use Rattle.text.proofs.report.cont_lines.Tie as tie
 
 abbrev Inv-loop : tie.InvT-loop
-Inv-loop out₀ at contours references first count f q₀ i₀ out q i = Partly (contLine contours references first) count first out₀ at out q i
+Inv-loop out₀ at segments points references contours first count f q₀ i₀ out q i = Partly (contLine segments points references contours) count first out₀ at out q i
 
 abbrev μ-loop : tie.MeasureT-loop
-μ-loop out₀ at contours references first count f q₀ i₀ out q i = count - i
+μ-loop out₀ at segments points references contours first count f q₀ i₀ out q i = count - i
 
 loop-holds : tie.Need-loop-holds Inv-loop μ-loop
 loop-holds c =
-    let start = c .before .before .before in
+    let start = c .before .before .before .before .before in
     let a = start .args in
-    partly-none (contLine (now (a .contours)) (now (a .references)) (a .first)) (a .count) (a .first) (now (a .out)) (a .at) (start .pre)
+    partly-none (contLine (now (a .segments)) (now (a .points)) (now (a .references)) (now (a .contours))) (a .count) (a .first) (now (a .out)) (a .at) (start .pre)
 
 cast-cont-line : tie.Need-cast-cont-line Inv-loop μ-loop
 cast-cont-line c = search needs

@@ -49,7 +49,7 @@ field-at-requires-3 c κs = search needs
 
 add-field-at-3 : tie.Need-add-field-at-3
 add-field-at-3 c =
-    let start = c .before .before .before .before .before .before .before .before .before .before .before .before .before .before .before .before .before .before .before .before .before .before .before .before .before .before .before .before in
+    let start = c .before .before .before .before .before .before .before .before .before .before .before .before .before .before .before .before .before .before .before .before .before .before .before .before .before .before .before .before .before .before in
     omega (arith, start .fits .i)
 
 field-at-requires-4 : tie.Need-field-at-requires-4
@@ -74,7 +74,7 @@ returns c =
     let at-word = at-field .before .before .before .before in
     let at-get2 = at-word .before .before .before in
     let at-get = at-get2 .before in
-    let a = at-get .before .before .before .before .before .args in
+    let a = at-get .before .before .before .before .before .before .before .args in
     at-word .word .ensures
     then at-field .field .ensures
     then at-field-at .field-at .ensures
@@ -82,7 +82,7 @@ returns c =
     then at-field-at3 .field-at3 .ensures
     then at-field-at4 .field-at4 .ensures
     then at-byte .byte .ensures
-    then printed-as (ap₂ (λ (first count : ℕ). pieces (contLine (a .contours .now) (a .references .now) first) count first) (at-get .get .ensures) (at-get2 .get2 .ensures)) (at-cont-lines .cont-lines .ensures)
+    then printed-as (ap₂ (λ (first count : ℕ). pieces (contLine (a .segments .now) (a .points .now) (a .references .now) (a .contours .now)) count first) (at-get .get .ensures) (at-get2 .get2 .ensures)) (at-cont-lines .cont-lines .ensures)
 
 same-length : tie.Need-same-length
 same-length c = printed-long (returns c)

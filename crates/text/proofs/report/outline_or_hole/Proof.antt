@@ -1,6 +1,7 @@
 -- `text::report::outline_or_hole` meets its contract.
-use mathlib.Core.Path.{sym}
-use Rattle.text.proofs.Printing.{printed-as, letter-first, letter-other}
+use mathlib.Core.Path.{sym, ap}
+use Rattle.text.specs.Output.{letter}
+use Rattle.text.proofs.Printing.{printed-as}
 use borrow.Author.Needs.{needs}
 use Rattle.text.proofs.report.outline_or_hole.Statement.{statement}
 use Rattle.text.proofs.report.outline_or_hole.Tie as tie
@@ -15,10 +16,10 @@ same-length : tie.Need-same-length
 same-length c = search needs
 
 returns : tie.Need-returns
+unfolding letter
 returns c =
     let test = c .before .before .before .before .before in
-    let a = test .before .before .args in
-    printed-as (sym (letter-first (a .first) (a .k) (test .if1 .taken))) (c .before .before .word .ensures)
+    printed-as (sym (ap letter (test .if1 .taken))) (c .before .before .word .ensures)
 
 slice-aggregate-word-2 : tie.Need-slice-aggregate-word-2
 slice-aggregate-word-2 c = search needs
@@ -30,10 +31,10 @@ same-length-2 : tie.Need-same-length-2
 same-length-2 c = search needs
 
 returns-2 : tie.Need-returns-2
+unfolding letter
 returns-2 c =
     let test = c .before .before .before .before .before in
-    let a = test .before .before .args in
-    printed-as (sym (letter-other (a .first) (a .k) (test .if1 .left))) (c .before .before .word2 .ensures)
+    printed-as (sym (ap letter (test .if1 .left))) (c .before .before .word2 .ensures)
 
 pub outline-or-hole-spec : {M : Type 1} → statement M
 outline-or-hole-spec =
