@@ -66,13 +66,31 @@ static void print_segments(const mosaic_segment *segments, uint32_t count, const
     }
 }
 
-static void print_faces(const mosaic_face *faces, uint32_t count, const mosaic_contour *contours, const uint32_t *references) {
+/* Over the steps of a contour, y for each step east and minus y for each step west: above zero it is an outline, else the rim of a hole. */
+static int64_t contour_sum(const mosaic_contour *contour, const uint32_t *references, const mosaic_segment *segments,
+                           const mosaic_point *points) {
+    int64_t sum = 0;
+    for (uint32_t r = 0; r < contour->reference_count; r++) {
+        uint32_t reference = references[contour->first_reference + r];
+        const mosaic_segment *segment = &segments[mosaic_segment_of(reference)];
+        int64_t along = 0;
+        for (uint32_t p = 0; p + 1 < segment->point_count; p++) {
+            const mosaic_point *point = &points[segment->first_point + p];
+            along += (int64_t)point[0].y * ((int64_t)point[1].x - (int64_t)point[0].x);
+        }
+        sum += mosaic_reversed(reference) ? -along : along;
+    }
+    return sum;
+}
+
+static void print_faces(const mosaic_face *faces, uint32_t count, const mosaic_contour *contours, const uint32_t *references,
+                        const mosaic_segment *segments, const mosaic_point *points) {
     for (uint32_t f = 0; f < count; f++) {
         printf("face %" PRIu32 " %" PRIu32 " %" PRIu32 " %" PRIu32 " %" PRIu32 "\n", f, faces[f].region, faces[f].contour_count,
                faces[f].x, faces[f].y);
         for (uint32_t c = 0; c < faces[f].contour_count; c++) {
             const mosaic_contour *contour = &contours[faces[f].first_contour + c];
-            printf("cont %c", c == 0 ? 'O' : 'H');
+            printf("cont %c", contour_sum(contour, references, segments, points) > 0 ? 'O' : 'H');
             for (uint32_t r = 0; r < contour->reference_count; r++) {
                 print_reference(references[contour->first_reference + r]);
             }
@@ -111,7 +129,7 @@ static uint32_t print_cut_list(uint32_t width, uint32_t height, uint32_t paints,
                a.nodes, a.segments, a.points, a.references, a.contours, a.faces, a.steps);
         print_nodes(nodes, a.nodes);
         print_segments(segments, a.segments, points);
-        print_faces(faces, a.faces, contours, references);
+        print_faces(faces, a.faces, contours, references, segments, points);
     }
 
     free(faces);
