@@ -119,11 +119,9 @@ extern "C" {
     );
 }
 
-/// Words of a face record in the library, of which the Rust has the first three.
-pub const FACE: usize = 5;
 
 /// Words of a record: nodes, segments, points, references, contours, faces.
-pub const WORDS: [usize; 6] = [RECORD[0], RECORD[1], RECORD[2], RECORD[3], RECORD[4], FACE];
+pub const WORDS: [usize; 6] = RECORD;
 
 /// What a call is lent, and what it leaves.
 #[derive(Clone, Debug, PartialEq, Eq)]

@@ -7,7 +7,7 @@ mod speed;
 
 use graphs::Dice;
 use judge::Judge;
-use library::{Graph, Map, Stores, FACE};
+use library::{Graph, Map, Stores};
 use oracle::{cut_list_of, extract, label_map, LabelMap};
 
 fn main() {
@@ -57,7 +57,7 @@ impl Tally {
         };
         let rust = label_map(map.width, map.height, map.paints, &labels);
         let traced = extract(&rust);
-        let counts = cut_list_of(&traced, &oracle::assemble(&traced, &rust)).counts;
+        let counts = cut_list_of(&rust, &traced, &oracle::assemble(&traced, &rust)).counts;
         let other = graphs::other_writer(&mut dice, &judge, &traced);
         let mut g = graphs::words(&mut dice, &other);
         if damaged {
@@ -124,15 +124,10 @@ impl Tally {
             0 => {
                 self.accepted += 1;
                 let graph = graphs::read(g);
-                let list = cut_list_of(&graph, &oracle::assemble(&graph, rust));
+                let list = cut_list_of(rust, &graph, &oracle::assemble(&graph, rust));
                 left.references[..list.references.len()].copy_from_slice(&list.references);
                 left.contours[..list.contours.len()].copy_from_slice(&list.contours);
-                for (i, face) in list.faces.chunks_exact(3).enumerate() {
-                    left.faces[FACE * i..FACE * i + 3].copy_from_slice(face);
-                    // The Rust has no words for the rest of the record.
-                    let rest = FACE * i + 3..FACE * (i + 1);
-                    left.faces[rest.clone()].copy_from_slice(&stores.faces[rest]);
-                }
+                left.faces[..list.faces.len()].copy_from_slice(&list.faces);
             }
             15 => self.strange += 1,
             _ => self.short += 1,
