@@ -6,8 +6,10 @@
  *
  *   mosaic_size   counts its cut list;
  *   mosaic_graph  writes its nodes, segments and points;
- *   mosaic_whole  writes these and its references, contours and faces;
- *   mosaic_veneer writes how many pixels are in each face.
+ *   mosaic_whole  writes these and its references, contours and faces.
+ *
+ * The others are declared, each with its rules, further down: veneer, a sheet and its moves, layers, merge, a tray, a listing, another
+ * writer's graph, job files. The header is C99 and C++.
  *
  * Link the archive that `rt staticlib mosaic` writes, target/staticlib/libmosaic.a (x86-64 Linux). It needs memset and no more of C.
  *
@@ -66,6 +68,10 @@
  * MOSAIC_NONE, its first and last point are equal and its last direction is 0. A face is one piece: pixels of one painted label that
  * hang together, also across a corner; its first pixel is the first of them row by row, and names the piece where face numbers move.
  * A contour has its region on the left; y grows downwards. References lie contour after contour, contours face after face.
+ *
+ * Neighbouring points of a segment are one unit apart: straight ones stand among them, not the turns alone. Each reference of a contour
+ * starts at the point where the one before it ends, and the first one where the last one ends. A contour is an outline when its own sum
+ * is above zero (y for each step east, minus y for each step west; see mosaic_veneer), else it is the rim of a hole.
  *
  * A map of w x h pixels has at most k = 2wh + w + h cracks (unit cuts), and so no more than k segments, 2k points and 2k references;
  * no more than (w+1)(h+1) nodes and as many contours; and no more than wh faces. Where the stores lent to mosaic_graph or mosaic_whole
