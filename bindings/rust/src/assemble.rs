@@ -2,7 +2,7 @@
 
 use std::fmt;
 
-use crate::cutter::Map;
+use crate::cutter::{Map, Mode};
 use crate::ffi::Answer;
 use crate::list::{CutList, Stores};
 
@@ -80,9 +80,8 @@ impl fmt::Display for NotAssembled {
 
 impl std::error::Error for NotAssembled {}
 
-/// The cut list of a map over a graph that describes it, with the graph's own nodes, segments and points. Mode 0 reads each label as it
-/// is, any other every unpainted one as [`OUTSIDE`](crate::RegionId::OUTSIDE).
-pub fn assemble(mode: u32, map: Map<'_>, graph: Graph<'_>) -> Result<CutList, NotAssembled> {
+/// The cut list of a map over a graph that describes it, with the graph's own nodes, segments and points.
+pub fn assemble(mode: Mode, map: Map<'_>, graph: Graph<'_>) -> Result<CutList, NotAssembled> {
     let side = |length: u32| length.min(16_384) as usize + 1;
     let mut work = vec![0u32; 8 * side(map.width) * side(map.height)];
     // A segment has two sides; no contour and no face is without one.
@@ -103,7 +102,7 @@ pub fn assemble(mode: u32, map: Map<'_>, graph: Graph<'_>) -> Result<CutList, No
     // library's promise holds for stores of any length, whatever words they hold.
     unsafe {
         mosaic_assemble(
-            mode,
+            mode.word(),
             map.width,
             map.height,
             map.paints,

@@ -39,6 +39,6 @@ pub use list::{
     SegmentId,
 };
 pub use merge::{merge_similar, merge_words, Merged, Unmerged, REGION_WORDS};
-pub use sheet::{cut_on_sheet, Move, Moves, OnSheet, Sheet};
+pub use sheet::{cut_on_sheet, cut_on_sheet_in, Move, Moves, OnSheet, Sheet};
 pub use tray::{tray, Tile};
 pub use veneer::veneer;

@@ -336,7 +336,9 @@ impl<'a> Contour<'a> {
         let east = |reference| {
             let points = list.path(reference);
             let next = list.path(reference).skip(1);
-            points.zip(next).map(|(a, b)| (i64::from(b.x) - i64::from(a.x)) * i64::from(a.y))
+            points
+                .zip(next)
+                .map(|(a, b)| (i64::from(b.x) - i64::from(a.x)) * i64::from(a.y))
         };
         self.references().flat_map(east).sum()
     }

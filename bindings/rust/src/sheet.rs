@@ -2,7 +2,7 @@
 
 use std::iter::FusedIterator;
 
-use crate::cutter::{cut, Map, Refusal};
+use crate::cutter::{cut_in, Map, Mode, Refusal};
 use crate::ffi::Answer;
 use crate::list::CutList;
 
@@ -104,8 +104,13 @@ pub struct OnSheet {
 /// # Ok::<(), mosaic::Refusal>(())
 /// ```
 pub fn cut_on_sheet(map: Map<'_>, sheet: Sheet) -> Result<OnSheet, Refusal> {
+    cut_on_sheet_in(Mode::Plain, map, sheet)
+}
+
+/// The same, its labels read in a mode.
+pub fn cut_on_sheet_in(mode: Mode, map: Map<'_>, sheet: Sheet) -> Result<OnSheet, Refusal> {
     // 16 is asked last and a `Sheet` is never refused, so this is what `mosaic_sheet_whole` leaves.
-    let list = cut(map)?;
+    let list = cut_in(mode, map)?;
     Ok(OnSheet {
         list,
         width: map.width,

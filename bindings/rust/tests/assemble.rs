@@ -1,6 +1,6 @@
 //! Graphs of another writer.
 
-use mosaic::{assemble, CutList, Graph, Map, NotAssembled, RegionId};
+use mosaic::{assemble, CutList, Graph, Map, Mode, NotAssembled, RegionId};
 
 const OUTSIDE: u32 = RegionId::OUTSIDE.0;
 const NONE: u32 = u32::MAX;
@@ -38,7 +38,7 @@ fn pair(nodes: &[[u32; 6]]) -> Result<CutList, NotAssembled> {
         segments: &SEGMENTS,
         points: &POINTS,
     };
-    assemble(0, PAIR, graph)
+    assemble(Mode::Plain, PAIR, graph)
 }
 
 /// Each face as its region and the corners of its contours.
@@ -79,7 +79,7 @@ fn ring(last: u32) -> Result<CutList, NotAssembled> {
         segments: &[[0, 5, NONE, NONE, 0, OUTSIDE, 0, last]],
         points: &[[1, 1], [1, 0], [0, 0], [0, 1], [1, 1]],
     };
-    assemble(0, map, graph)
+    assemble(Mode::Plain, map, graph)
 }
 
 #[test]
@@ -98,21 +98,27 @@ fn no_graph_in_either_mode() {
         points: &[],
     };
     let waste = Map { paints: 0, ..PAIR };
-    let list = assemble(1, waste, empty).expect("no cut goes through waste");
+    let list = assemble(Mode::NoWaste, waste, empty).expect("no cut goes through waste");
     assert_eq!(list.counts(), [0; 7]);
-    assert_eq!(assemble(0, waste, empty), Err(NotAssembled::StrangeGraph));
+    assert_eq!(
+        assemble(Mode::Plain, waste, empty),
+        Err(NotAssembled::StrangeGraph)
+    );
     let long = Map {
         width: 16_385,
         height: 0,
         ..PAIR
     };
-    assert_eq!(assemble(0, long, empty), Err(NotAssembled::SideTooLong));
+    assert_eq!(
+        assemble(Mode::Plain, long, empty),
+        Err(NotAssembled::SideTooLong)
+    );
     let short = Map {
         labels: &[0],
         ..PAIR
     };
     assert_eq!(
-        assemble(0, short, empty),
+        assemble(Mode::Plain, short, empty),
         Err(NotAssembled::WrongLabelCount)
     );
     assert_eq!(NotAssembled::StrangeGraph.number(), 15);

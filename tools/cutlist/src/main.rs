@@ -23,7 +23,7 @@ use std::path::Path;
 use std::process::ExitCode;
 
 use clap::Parser;
-use mosaic::{cut_in, cut_on_sheet, CutList, Mode, OnSheet};
+use mosaic::{cut_in, cut_on_sheet_in, CutList, Mode, OnSheet};
 
 use arguments::{Arguments, Format};
 use failure::Failure;
@@ -163,8 +163,7 @@ fn cut(
     budget.allow(needed, "its cut list")?;
     let cut = match asked.sheet {
         None => Cut::Pixels(cut_in(Mode::NoWaste, picture.map())?),
-        // Every label here is painted or OUTSIDE, and then both modes have the same cut list.
-        Some(sheet) => Cut::Sheet(cut_on_sheet(picture.map(), sheet)?),
+        Some(sheet) => Cut::Sheet(cut_on_sheet_in(Mode::NoWaste, picture.map(), sheet)?),
     };
     let [_, segments, .., faces, _] = cut.list().counts();
     stage.done(&format!(
