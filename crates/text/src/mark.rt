@@ -1,7 +1,7 @@
 // The mark of a contour, from the words of the stores: what goes east along it, by y, against what goes west. A word past the end of a store is read as 0.
 ghost use mathlib.Core.Path.{_≡_};
 ghost use Prim.Native.Nat.{_-_, _<_};
-ghost use Rattle.text.specs.Mark.{eastward, stepEast, summed, segmentEast, referenceEast, contourEast, outlined};
+ghost use Rattle.text.specs.Mark.{eastward, stepEast, summed, segmentEast, referenceEast, outlined};
 
 // y of the point i where the point j lies east of it, else 0.
 fn eastward(points: &[u32], i: usize, j: usize) -> u64
