@@ -43,11 +43,14 @@ module _ {P : Picture} (F : Framed P) {ss : List (List Dart)} (D : Describes P s
         let u = g.live p.0 j in
         in-cast (next_injective F D r p.0 v.below v.opens u.below u.opens (sym p.2)) j
 
+    linked_off_at : (r a : ℕ) (l : List ℕ) → Live P ss a → Linked (next P ss) a l → (In a (flat cs) → ⊥) → In r (a ∷ l) → In r (flat cs) → ⊥
+    linked_off_at r a l v k n (here e) j = n (in-cast (sym e) j)
+    linked_off_at r a [] v k n (there i) j = not-nil i
+    linked_off_at r a (b ∷ l) v k n (there i) j =
+        linked_off_at r b l (subst (Live P ss) (sym k.0) (next_live F D a v)) k.1 (λ i. n (found_back a v (in-cast (sym k.0) i))) i j
+
     linked_off : (a : ℕ) (l : List ℕ) → Live P ss a → Linked (next P ss) a l → (In a (flat cs) → ⊥) → (r : ℕ) → In r (a ∷ l) → In r (flat cs) → ⊥
-    linked_off a l v k n r (here e) j = n (in-cast (sym e) j)
-    linked_off a [] v k n r (there i) j = not-nil i
-    linked_off a (b ∷ l) v k n r (there i) j =
-        linked_off b l (subst (Live P ss) (sym k.0) (next_live F D a v)) k.1 (λ i. n (found_back a v (in-cast (sym k.0) i))) r i j
+    linked_off a l v k n r i j = linked_off_at r a l v k n i j
 
     add_round : (r : ℕ) (l : List ℕ) → (In r (flat cs) → ⊥) → Round P ss r l → Found P ss (cs ++ ((r ∷ l) ∷ []))
     add_round r l n o = record {
@@ -112,12 +115,15 @@ module _ {P : Picture} (F : Framed P) {ss : List (List Dart)} (D : Describes P s
 
   -- ONE REGION
 
-  linked_region : (a : ℕ) (l : List ℕ) → ((q : ℕ) → In q (a ∷ l) → Live P ss q) → Linked (next P ss) a l → (r : ℕ) → In r (a ∷ l) → region P ss r ≡ region P ss a
-  linked_region a l v k r (here e) = ap (region P ss) e
-  linked_region a [] v k r (there i) = absurd (not-nil i)
-  linked_region a (b ∷ l) v k r (there i) =
+  linked_region_at : (r a : ℕ) (l : List ℕ) → ((q : ℕ) → In q (a ∷ l) → Live P ss q) → Linked (next P ss) a l → In r (a ∷ l) → region P ss r ≡ region P ss a
+  linked_region_at r a l v k (here e) = ap (region P ss) e
+  linked_region_at r a [] v k (there i) = absurd (not-nil i)
+  linked_region_at r a (b ∷ l) v k (there i) =
       let u = v a (here refl) in
-      linked_region b l (λ q i. v q (there i)) k.1 r i ∙ ap (region P ss) k.0 ∙ next_region F D a u.below u.opens
+      linked_region_at r b l (λ q i. v q (there i)) k.1 i ∙ ap (region P ss) k.0 ∙ next_region F D a u.below u.opens
+
+  linked_region : (a : ℕ) (l : List ℕ) → ((q : ℕ) → In q (a ∷ l) → Live P ss q) → Linked (next P ss) a l → (r : ℕ) → In r (a ∷ l) → region P ss r ≡ region P ss a
+  linked_region a l v k r i = linked_region_at r a l v k i
 
   cycle_region : (c : List ℕ) → ((q : ℕ) → In q c → Live P ss q) → Cycle (next P ss) c → (r : ℕ) → In r c → region P ss r ≡ region P ss (get_or c 0 0)
   cycle_region [] v k r i = absurd k

@@ -9,7 +9,7 @@ use Rattle.rules.specs.Lists.{flat}
 use Rattle.rules.specs.Picture.{Picture, OUTSIDE, Dart, node}
 use Rattle.rules.specs.Graph.{corners, nodes, cracks}
 use Rattle.rules.specs.Describes.{Describes}
-use Rattle.rules.specs.Face.{Face, faces, contours}
+use Rattle.rules.specs.Face.{Face, faces}
 use Rattle.rules.specs.Records.{contours_of}
 use Rattle.rules.specs.Calls.{cuts, Answer, counted}
 use Rattle.rules.proofs.Ground.Lists.{keep_few}

@@ -72,10 +72,13 @@ module _ {A : Type 0} (f : A → A) (stop : A → Bool) where
   before_later a b l d k e (inl q) = inr (a, here refl, q ∙ e, k)
   before_later a b l d k e (inr o) = inr (o.0, there o.1, o.2, o.3)
 
+  walk_before_at : (d a : A) (l : List A) → Walk a l → In d (a ∷ l) → Before a l d
+  walk_before_at d a l w (here e) = inl e
+  walk_before_at d a [] w (there m) = absurd (not-nil m)
+  walk_before_at d a (b ∷ l) w (there m) = before_later a b l d w.0 w.1 (walk_before_at d b l w.2 m)
+
   pub walk_before : (a : A) (l : List A) → Walk a l → (d : A) → In d (a ∷ l) → Before a l d
-  walk_before a l w d (here e) = inl e
-  walk_before a [] w d (there m) = absurd (not-nil m)
-  walk_before a (b ∷ l) w d (there m) = before_later a b l d w.0 w.1 (walk_before b l w.2 d m)
+  walk_before a l w d i = walk_before_at d a l w i
 
   pub walk_linked : (a : A) (l : List A) → Walk a l → Linked f a l
   walk_linked a [] w = tt
@@ -98,15 +101,21 @@ module _ {A : Type 0} {f : A → A} {stop : A → Bool} {Start Ok : A → Type 0
   trail_ok b [] t = O.first b t
   trail_ok b (a ∷ h) t = subst Ok (sym t.0) (O.stays a (trail_ok a h t.2) t.1)
 
+  trail_all_at : (c b : A) (h : List A) → Trail f stop Start b h → In c (b ∷ h) → Ok c
+  trail_all_at c b h t (here e) = subst Ok (sym e) (trail_ok b h t)
+  trail_all_at c b [] t (there m) = absurd (not-nil m)
+  trail_all_at c b (a ∷ h) t (there m) = trail_all_at c a h t.2 m
+
   pub trail_all : (b : A) (h : List A) → Trail f stop Start b h → (c : A) → In c (b ∷ h) → Ok c
-  trail_all b h t c (here e) = subst Ok (sym e) (trail_ok b h t)
-  trail_all b [] t c (there m) = absurd (not-nil m)
-  trail_all b (a ∷ h) t c (there m) = trail_all a h t.2 c m
+  trail_all b h t c i = trail_all_at c b h t i
+
+  walk_all_at : (c a : A) (l : List A) → Ok a → Walk f stop a l → In c (a ∷ l) → Ok c
+  walk_all_at c a l k w (here e) = subst Ok (sym e) k
+  walk_all_at c a [] k w (there m) = absurd (not-nil m)
+  walk_all_at c a (b ∷ l) k w (there m) = walk_all_at c b l (subst Ok (sym w.1) (O.stays a k w.0)) w.2 m
 
   pub walk_all : (a : A) (l : List A) → Ok a → Walk f stop a l → (c : A) → In c (a ∷ l) → Ok c
-  walk_all a l k w c (here e) = subst Ok (sym e) k
-  walk_all a [] k w c (there m) = absurd (not-nil m)
-  walk_all a (b ∷ l) k w c (there m) = walk_all b l (subst Ok (sym w.1) (O.stays a k w.0)) w.2 c m
+  walk_all a l k w c i = walk_all_at c a l k w i
 
   -- where a step comes from: it is a start, or follows an earlier one
   abbrev Origin : A → List A → Type 0
@@ -135,10 +144,13 @@ module _ {A : Type 0} {f : A → A} {stop : A → Bool} {Start Ok : A → Type 0
   trail_distinct b [] t = (trail_fresh b [] t, tt)
   trail_distinct b (a ∷ h) t = (trail_fresh b (a ∷ h) t, trail_distinct a h t.2)
 
+  walk_fresh_at : (c a : A) (l h : List A) → Trail f stop Start a h → Walk f stop a l → In c (a ∷ l) → In c h → ⊥
+  walk_fresh_at c a l h t w (here e) n = trail_fresh a h t (in-cast (sym e) n)
+  walk_fresh_at c a [] h t w (there m) n = not-nil m
+  walk_fresh_at c a (b ∷ l) h t w (there m) n = walk_fresh_at c b l (a ∷ h) (w.1, w.0, t) w.2 m (there n)
+
   pub walk_fresh : (a : A) (l h : List A) → Trail f stop Start a h → Walk f stop a l → (c : A) → In c (a ∷ l) → In c h → ⊥
-  walk_fresh a l h t w c (here e) n = trail_fresh a h t (in-cast (sym e) n)
-  walk_fresh a [] h t w c (there m) n = not-nil m
-  walk_fresh a (b ∷ l) h t w c (there m) n = walk_fresh b l (a ∷ h) (w.1, w.0, t) w.2 c m (there n)
+  walk_fresh a l h t w c i n = walk_fresh_at c a l h t w i n
 
   pub walk_distinct : (a : A) (l h : List A) → Trail f stop Start a h → Walk f stop a l → Distinct (a ∷ l)
   walk_distinct a [] h t w = (not-nil, tt)

@@ -47,10 +47,13 @@ module _ (P : Picture) (q : ℕ) where
           met true e = later p r v.0 v.1 v.2 (among_in p (r ∷ v.0) e)
           met false e = (r ∷ v.0, (s, v.1), (not_among p (r ∷ v.0) e, v.2))
 
+  way_in_lem_at : (r p : ℕ) (l : List ℕ) → p < P.w * P.h → Way P p l q → In r (p ∷ l) → r < P.w * P.h
+  way_in_lem_at r p l h w (at_head e) = rw e h
+  way_in_lem_at r p [] h w (in_Tail i) = absurd (not-nil i)
+  way_in_lem_at r p (t ∷ l) h w (in_Tail i) = way_in_lem_at r t l w.0.end w.1 i
+
   way_in_lem : (p : ℕ) (l : List ℕ) → p < P.w * P.h → Way P p l q → (r : ℕ) → In r (p ∷ l) → r < P.w * P.h
-  way_in_lem p l h w r (at_head e) = rw e h
-  way_in_lem p [] h w r (in_Tail i) = absurd (not-nil i)
-  way_in_lem p (t ∷ l) h w r (in_Tail i) = way_in_lem t l w.0.end w.1 r i
+  way_in_lem p l h w r i = way_in_lem_at r p l h w i
 
   straight_short : (p : ℕ) (l : List ℕ) → p < P.w * P.h → Way P p l q → Distinct (p ∷ l) → length l ≤ P.w * P.h
   straight_short p l h w d =

@@ -42,14 +42,17 @@ module _ {P : Picture} (F : Framed P) where
   through_turns a [] p t = tt
   through_turns a (b ∷ l) p t = (goes_on a b l p t ∙ sym (turn_following F a (p.cracks a (here refl)) t.0), through_turns b l (plain_tail a (b ∷ l) p) t.3)
 
-  pub through_along : (a : Dart) (l : List Dart) → Plain P (a ∷ l) → Through P a l → (c : Dart) → In c (a ∷ l) → Along P a c
-  through_along a l p t c (here e) = record { lefts = ap (left P) e; rights = ap (right P) e }
-  through_along a [] p t c (there i) = absurd (not-nil i)
-  through_along a (b ∷ l) p t c (there i) =
-      let r = through_along b l (plain_tail a (b ∷ l) p) t.3 c i in
+  through_along_at : (c a : Dart) (l : List Dart) → Plain P (a ∷ l) → Through P a l → In c (a ∷ l) → Along P a c
+  through_along_at c a l p t (here e) = record { lefts = ap (left P) e; rights = ap (right P) e }
+  through_along_at c a [] p t (there i) = absurd (not-nil i)
+  through_along_at c a (b ∷ l) p t (there i) =
+      let r = through_along_at c b l (plain_tail a (b ∷ l) p) t.3 i in
       let e = goes_on a b l p t in
       let k = p.cracks a (here refl) in
       record { lefts = r.lefts ∙ ap (left P) e ∙ following_left F a k t.0; rights = r.rights ∙ ap (right P) e ∙ following_right F a k t.0 }
+
+  pub through_along : (a : Dart) (l : List Dart) → Plain P (a ∷ l) → Through P a l → (c : Dart) → In c (a ∷ l) → Along P a c
+  through_along a l p t c i = through_along_at c a l p t i
 
   -- only the last step may lead to a node
   pub through_meets : (a : Dart) (l : List Dart) → Through P a l → (c : Dart) → In c (a ∷ l) → (c ≡ last_of a l) ⊎ (meets P c ≡ false)

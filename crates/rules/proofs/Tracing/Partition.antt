@@ -56,12 +56,15 @@ module _ {P : Picture} (F : Framed P) (l : List Dart) (f : Closed P l) where
       (f (turned (following P a)) (turned_crack F (following P a) d) (on_turn F (following P a) l d o) (meets_back a c k)))
 
   -- a walk from an edge off a closed list stays off it
-  stays_off : (x₀ y₀ : ℕ) (a : Dart) (m : List Dart) → crack P a ≡ true → Steps P x₀ y₀ a m → (On a l → ⊥) → (c : Dart) → In c (a ∷ m) → On c l → ⊥
-  stays_off x₀ y₀ a m k w n c (here e) o = n (on_path c a l e o)
-  stays_off x₀ y₀ a [] k w n c (there i) o = not-nil i
-  stays_off x₀ y₀ a (b ∷ m) k w n c (there i) o =
+  stays_off_at : (x₀ y₀ : ℕ) (c a : Dart) (m : List Dart) → crack P a ≡ true → Steps P x₀ y₀ a m → (On a l → ⊥) → In c (a ∷ m) → On c l → ⊥
+  stays_off_at x₀ y₀ c a m k w n (here e) o = n (on_path c a l e o)
+  stays_off_at x₀ y₀ c a [] k w n (there i) o = not-nil i
+  stays_off_at x₀ y₀ c a (b ∷ m) k w n (there i) o =
       let s = going_meets P x₀ y₀ a w.0 in
-      stays_off x₀ y₀ b m (ap (crack P) w.1 ∙ following_crack F a k s) w.2 (λ o. n (closed_back a k s (on_path b (following P a) l w.1 o))) c i o
+      stays_off_at x₀ y₀ c b m (ap (crack P) w.1 ∙ following_crack F a k s) w.2 (λ o. n (closed_back a k s (on_path b (following P a) l w.1 o))) i o
+
+  stays_off : (x₀ y₀ : ℕ) (a : Dart) (m : List Dart) → crack P a ≡ true → Steps P x₀ y₀ a m → (On a l → ⊥) → (c : Dart) → In c (a ∷ m) → On c l → ⊥
+  stays_off x₀ y₀ a m k w n c i o = stays_off_at x₀ y₀ c a m k w n i o
 
 -- A WALK THAT STARTS AT A NODE OR MEETS NONE: it is closed, and a segment
 

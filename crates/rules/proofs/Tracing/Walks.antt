@@ -108,10 +108,13 @@ module _ {P : Picture} (F : Framed P) (x₀ y₀ : ℕ) where
           (sym (turned_turned F a ca)
           ∙ ap turned (sym (following_back F a ca ka) ∙ ap (λ d. following P (turned d)) (sym t.0 ∙ q) ∙ ap (following P) (turned_turned F c (before_cracks a h t.2 c (there m)))))
 
+  walk_apart_at : (c a : Dart) (l h : List Dart) → Before P x₀ y₀ a h → Steps P x₀ y₀ a l → (d : Dart) → In c (a ∷ l) → In d (a ∷ h) → c ≡ turned d → ⊥
+  walk_apart_at c a l h t w d (here e) n q = before_apart a h t d n (sym e ∙ q)
+  walk_apart_at c a [] h t w d (there m) n q = not-nil m
+  walk_apart_at c a (b ∷ l) h t w d (there m) n q = walk_apart_at c b l (a ∷ h) (w.1, w.0, t) w.2 d m (there n) q
+
   pub walk_apart : (a : Dart) (l h : List Dart) → Before P x₀ y₀ a h → Steps P x₀ y₀ a l → (c d : Dart) → In c (a ∷ l) → In d (a ∷ h) → c ≡ turned d → ⊥
-  walk_apart a l h t w c d (here e) n q = before_apart a h t d n (sym e ∙ q)
-  walk_apart a [] h t w c d (there m) n q = not-nil m
-  walk_apart a (b ∷ l) h t w c d (there m) n q = walk_apart b l (a ∷ h) (w.1, w.0, t) w.2 c d m (there n) q
+  walk_apart a l h t w c d i n q = walk_apart_at c a l h t w d i n q
 
   pub walk_once : (a : Dart) (l h : List Dart) → Before P x₀ y₀ a h → Steps P x₀ y₀ a l → Once (a ∷ l)
   walk_once a [] h t w = (λ o. ⊎_elim not-nil not-nil o, tt)
