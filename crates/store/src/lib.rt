@@ -1,4 +1,6 @@
 // Lent stores of words: what lies past the end is read as 0, and a write there changes nothing.
+#![tactic(auto)]
+
 ghost use Rattle.std.specs.Prelude.{◌≡◌, [], ◌∷◌, ◌+◌, ◌<◌, ◌≤◌, length, get_or, set, replicate};
 ghost use Rattle.std.proofs.lemmas.List.Edits.{sets};
 
