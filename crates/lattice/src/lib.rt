@@ -1,4 +1,6 @@
 // The lattice of pixel corners: labels, cracks, nodes, and a walker's step.
+#![tactic(auto)]
+
 ghost use Rattle.std.specs.Prelude.{◌≡◌, ◌+◌, ◌*◌, ◌<◌, ◌≤◌};
 ghost use Rattle.rules.specs.Picture.{one as one_if, seen as seen_label, label as label_at, right_of, code};
 ghost use Rattle.lattice.specs.Size.{Small, Sides, Map, Corner, pic};
@@ -13,7 +15,7 @@ pub const OUTSIDE: u32 = 4294967295;
 pub const NONE: u32 = 4294967295;
 
 // The sides of a map, how many of its labels are painted, and the first label that is read as OUTSIDE.
-#[derive(Drop)]
+#[derive(Clone, Copy)]
 pub struct Size {
     pub width: u32,
     pub height: u32,
@@ -22,17 +24,17 @@ pub struct Size {
 }
 
 // Numbers that must not be mixed up: they are unpacked at the stores only.
-#[derive(Drop)]
+#[derive(Clone, Copy)]
 pub struct NodeId(pub u32);
 
-#[derive(Drop)]
+#[derive(Clone, Copy)]
 pub struct SegId(pub u32);
 
-#[derive(Drop)]
+#[derive(Clone, Copy)]
 pub struct RegionId(pub u32);
 
 // The labels of the four pixels around a corner.
-#[derive(Drop)]
+#[derive(Clone, Copy)]
 pub struct Around {
     pub nw: u32,
     pub ne: u32,
@@ -227,7 +229,7 @@ pub fn look_east(s: Size, labels: &[u32], a: Around, x: u32, y: u32) -> Around
 }
 
 // A walker: the corner that it stands at, and the direction that it goes.
-#[derive(Drop)]
+#[derive(Clone, Copy)]
 pub struct Walker {
     pub x: u32,
     pub y: u32,
