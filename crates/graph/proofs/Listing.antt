@@ -319,7 +319,7 @@ bare x y = refl
 
 pub records_none : (work : List ℕ) (at : ℕ) (nodes : List ℕ) → nodes ≡ sets nodes 0 (node_words [] (corners_at work at 0))
 unfolding upto node_words flat
-records_none work at nodes = refl
+records_none work at _ = refl
 
 module _ (work nodes₀ nodes nodes' : List ℕ) (at i x y : ℕ) (ex : x ≡ (unpacked (get_or work (at + i) 0)).0) (ey : y ≡ (unpacked (get_or work (at + i) 0)).1) where
   pub records_more : nodes ≡ sets nodes₀ 0 (node_words [] (corners_at work at i)) → nodes' ≡ sets nodes (6 * i) (node_word x y) → nodes' ≡ sets nodes₀ 0 (node_words [] (corners_at work at (i + 1)))

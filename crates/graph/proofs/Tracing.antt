@@ -11,7 +11,7 @@ use lib.ListN.{length, get_or, length-append}
 use lib.Seq.{sets}
 use Rattle.rules.specs.Lists.{flat}
 use Rattle.rules.specs.Picture.{Picture, picture, right_of, Dart, crack}
-use Rattle.rules.specs.Graph.{on, trace, corners, nodes, segments}
+use Rattle.rules.specs.Graph.{on, trace, corners, segments}
 use Rattle.rules.specs.Records.{point_words, point_records, segment_words}
 use Rattle.rules.proofs.Ground.Booleans.{both}
 use Rattle.rules.proofs.Ground.Lists.{flat_snoc, in_at, keep_in}
@@ -136,7 +136,7 @@ module _ (s : Size) (ls : List â„•) (o : State) (todo : List Dart) (work nodesâ‚
           record {
             sides = record { wide = h.map.wide; high = h.map.high };
             planes = omega (arith, marked_now.long, st.noded.planes);
-            low = omega (arith, (fits e.steps went.count).few-segments);
+            low = omega (arith, (fits e.steps went.count).few_segments);
             from = corner;
             to = rw (went.x, went.y) (end_corner s ls w h);
             leaves = h.way;

@@ -31,10 +31,10 @@ use Rattle.graph.proofs.Outs.{outs_written}
 
 -- WHAT IS TRACED: first from the nodes, then from all corners
 
-trace_append : (P : Picture) (ss : List (List Dart)) (k l : List Dart) → trace P ss (k ++ l) ≡ trace P (trace P ss k) l
+trace_append : (P : Picture) (k : List Dart) (ss : List (List Dart)) (l : List Dart) → trace P ss (k ++ l) ≡ trace P (trace P ss k) l
 unfolding trace
-trace_append P ss [] l = refl
-trace_append P ss (a ∷ k) l = trace_append P _ k l
+trace_append P [] ss l = refl
+trace_append P (a ∷ k) ss l = trace_append P k _ l
 
 module _ (s : Size) (ls : List ℕ) where
   abbrev P : Picture
@@ -46,7 +46,7 @@ module _ (s : Size) (ls : List ℕ) where
   traced : trace P [] (out (nodes P) ++ second) ≡ segments P
   unfolding segments
   traced =
-      trace_append P [] (out (nodes P)) second
+      trace_append P (out (nodes P)) [] second
       ∙ ap (trace P (trace P [] (out (nodes P)))) (append-nil (easts P (corners P)))
       ∙ sym (rings_at_bends (framed s ls))
 

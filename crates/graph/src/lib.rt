@@ -1,5 +1,7 @@
 // The boundary graph of a map: nodes, segments and their points, in lent stores.
 // A store drops the words that it has no place for, so empty stores make the same calls count only.
+#![tactic(auto)]
+
 ghost use Rattle.std.specs.Prelude.{◌≡◌, true, false, not, ◌&&◌, ◌||◌, [], ◌∷◌, suc, ◌+◌, ◌*◌, ◌<◌, ◌≤◌, length, set, get_or, eqb};
 ghost use Rattle.std.proofs.lemmas.List.Edits.{sets};
 ghost use Rattle.rules.specs.Graph.{row, corners, nodes as nodes_of, out};
@@ -21,7 +23,7 @@ ghost use Rattle.graph.specs.Extracted.{Extracted};
 use lattice::{Around, NONE, NodeId, RegionId, SegId, Size, Walker};
 
 // Where a walk came to, with its last heading and its number of steps.
-#[derive(Drop)]
+#[derive(Clone, Copy)]
 pub struct Walked {
     pub x: u32,
     pub y: u32,
@@ -30,14 +32,14 @@ pub struct Walked {
 }
 
 // The nodes of a segment and its last direction.
-#[derive(Drop)]
+#[derive(Clone, Copy)]
 pub struct Joined {
     pub start: NodeId,
     pub end: NodeId,
     pub last: u32,
 }
 
-#[derive(Drop)]
+#[derive(Clone, Copy)]
 pub struct Segment {
     pub first: u32,
     pub count: u32,
@@ -50,20 +52,20 @@ pub struct Segment {
 }
 
 // A corner.
-#[derive(Drop)]
+#[derive(Clone, Copy)]
 pub struct Point {
     pub x: u32,
     pub y: u32,
 }
 
 // How many nodes there are, and how many bends: corners with an E and an S crack and no other. A ring starts at a bend.
-#[derive(Drop)]
+#[derive(Clone, Copy)]
 pub struct Found {
     pub nodes: u32,
     pub bends: u32,
 }
 
-#[derive(Drop)]
+#[derive(Clone, Copy)]
 pub struct Counts {
     pub nodes: u32,
     pub bends: u32,
