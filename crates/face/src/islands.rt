@@ -11,7 +11,7 @@ use lattice::{OUTSIDE, Size};
 const NO_ISLAND: u32 = 4294967295;
 
 // The sides of the map, the first label that is read as OUTSIDE, and where the numbers stand in the work store.
-#[derive(Drop)]
+#[derive(Clone, Copy)]
 struct Plan {
     width: usize,
     height: usize,

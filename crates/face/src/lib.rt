@@ -1,4 +1,6 @@
 // The faces of a map: its islands, their contours, and how many there are.
+#![tactic(auto)]
+
 pub mod contours;
 pub mod islands;
 pub mod order;
@@ -10,7 +12,7 @@ ghost use Rattle.face.specs.Counts.{Counted};
 
 use lattice::Size;
 
-#[derive(Drop)]
+#[derive(Clone, Copy)]
 pub struct Counts {
     pub references: u32,
     pub contours: u32,
