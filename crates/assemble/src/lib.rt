@@ -1,4 +1,6 @@
 // The faces of a graph that stands in its stores: its contours are found in order, strung by island, and written face by face.
+#![tactic(auto)]
+
 ghost use Rattle.std.specs.Prelude.{◌≡◌, List, [], ◌∷◌, suc, ◌+◌, ◌*◌, ◌-◌, ◌/◌, ◌%◌, ◌<◌, ◌≤◌, length};
 ghost use Rattle.std.proofs.lemmas.List.Edits.{sets};
 ghost use Rattle.rules.specs.Picture.{code};
@@ -17,14 +19,14 @@ use lattice::{NONE, NodeId, OUTSIDE, RegionId, Size, Walker};
 const LINK: u32 = 2147483648;
 
 // A contour as it was written: how many references, and the first one of the next contour of its island, or none.
-#[derive(Drop)]
+#[derive(Clone, Copy)]
 struct Run {
     count: usize,
     next: u32,
 }
 
 // How many contours and references are written.
-#[derive(Drop)]
+#[derive(Clone, Copy)]
 pub struct Done {
     pub contours: usize,
     pub references: usize,
