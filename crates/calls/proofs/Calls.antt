@@ -8,7 +8,7 @@ use lib.Seq.{sets}
 use Rattle.rules.specs.Graph.{nodes, segments}
 use Rattle.rules.specs.Face.{faces}
 use Rattle.rules.specs.Records.{contours_of}
-use Rattle.rules.specs.Calls.{Map, picture_of, CutList, cuts, graph_list, cut_list, counted, refused, Check, first_hit, map_checks, short, graph_checks, face_checks, answer, store_after, call, graph, size, whole, work_words}
+use Rattle.rules.specs.Calls.{Map, picture_of, CutList, cuts, graph_list, cut_list, counted, refused, Check, first_hit, map_checks, short, graph_checks, face_checks, store_after, call, graph, size, whole, work_words}
 use Rattle.rules.proofs.Tracing.Partition.{describes}
 use Rattle.rules.proofs.Tracing.Counts.{has_step}
 use Rattle.rules.proofs.CutList.Lengths.{length_nodes, length_segments, length_points, length_contours, length_faces}

@@ -1,4 +1,6 @@
 // The calls: every map and every lent store is answered.
+#![tactic(auto)]
+
 ghost use Rattle.std.specs.Prelude.{◌≡◌, [], ◌∷◌, ◌++◌, ◌*◌, ◌≤◌, ltb, length, replicate};
 ghost use Rattle.std.proofs.lemmas.List.Edits.{sets};
 ghost use Rattle.rules.specs.Calls.{map_checks, graph_checks, face_checks, first_hit, refused, graph_list, cut_list, size as size_of, graph as graph_of, whole as whole_of};
@@ -15,7 +17,7 @@ use graph::{Counts, Found};
 use lattice::Size;
 
 // The number of docs/RULES.md, then the seven counts.
-#[derive(Drop)]
+#[derive(Clone, Copy)]
 pub struct Answer {
     pub number: u32,
     pub nodes: u32,

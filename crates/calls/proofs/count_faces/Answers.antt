@@ -1,0 +1,7 @@
+-- `calls::count_faces` meets its contract.
+use Rattle.calls.proofs.Steps.{faces_counted}
+use Rattle.calls.proofs.count_faces.Goals as goal
+
+pub returns : goal.returns
+returns c =
+    rw c.answer_whole.ensures (faces_counted c.requires.fact_3 c.count-f.ensures)
