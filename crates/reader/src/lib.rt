@@ -1,9 +1,11 @@
 // The segment reader: it hands out the corners of one segment's part of the point store, forward or reversed, then says the end.
 // `corner_at` and `step_at` do the work on plain values; `Reader` keeps the caller's store and the place together.
+#![tactic(auto)]
+
 ghost use Rattle.std.specs.Prelude.{◌≡◌};
 ghost use Rattle.reader.specs.Reading.{said, told, say_at, tell_at, start_of, tell_of, moved_to};
 
-#[derive(Drop)]
+#[derive(Clone, Copy)]
 pub enum Corner {
     At { x: u32, y: u32 },
     End,
@@ -12,7 +14,7 @@ pub enum Corner {
 }
 
 // What a call hands out, and the place of the next call.
-#[derive(Drop)]
+#[derive(Clone, Copy)]
 pub struct Step {
     pub corner: Corner,
     pub place: u32,
@@ -61,7 +63,7 @@ pub fn step_at(points: &[u32], first: u32, count: u32, reversed: bool, place: u3
 }
 
 // The caller's point words and a place in one part of them, which starts at the point `first`; at the place `end` the end is said.
-#[derive(Drop)]
+#[derive(Clone, Copy)]
 pub struct Reader<'a> {
     pub points: &'a [u32],
     pub first: u32,
