@@ -1,4 +1,6 @@
 // A map from layers: the last layer with a 1 over a pixel gives it its label (the Rust's `LabelMap::from_segmentation`).
+#![tactic(auto)]
+
 ghost use Rattle.std.specs.Prelude.{◌≡◌, cond, ◌||◌, ◌+◌, ◌*◌, ◌<◌, ◌≤◌, eqb, ltb, length};
 ghost use Rattle.rules.specs.Calls.{first_hit};
 ghost use Rattle.layers.specs.Layers.{wide, high, mask_at, above_one, layer_checks, flatten as flatten_of};
@@ -55,7 +57,7 @@ fn masks_whole(layers: &[u32], count: usize, bytes: usize) -> bool
 // PAINTING
 
 // What of a layer lies over the canvas, in one direction: from `start` on, `count` columns (or rows), the layer's own from `skip` on.
-#[derive(Drop)]
+#[derive(Clone, Copy)]
 struct Span {
     start: usize,
     skip: usize,
@@ -200,6 +202,7 @@ fn paint(width: u32, height: u32, layers: &[u32], masks: &[u8], labels: &mut [u3
 }
 
 // The number of the first check that hits, or 0.
+#[tactic(auto, using(crate::proofs::Refusals::each_check))]
 fn check(width: u32, height: u32, layers: &[u32], masks: &[u8], labels: &[u32]) -> u32
     ensures { result ≡ first_hit (layer_checks width height layers.now masks.now labels.now) }
 {
