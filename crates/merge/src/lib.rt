@@ -1,4 +1,6 @@
 // Near colours become one leaf: the regions of a map in a lent store, twelve words for each paint, and the merging of neighbours.
+#![tactic(auto)]
+
 pub mod order;
 
 ghost use Rattle.std.specs.Prelude.{◌≡◌, ◌+◌, ◌*◌, ◌/◌, ◌%◌, ◌<◌, ◌≤◌, length, set, eqb, leb, ltb, true, not, ◌&&◌, ◌||◌, [], ◌∷◌};
@@ -657,7 +659,7 @@ fn check(s: Size, limit: i32, labels: &[u32], colours: &[u8], work: &[u32], regi
 }
 
 // The number, and the new paint count.
-#[derive(Drop)]
+#[derive(Clone, Copy)]
 pub struct Answer {
     pub number: u32,
     pub paints: u32,
