@@ -1,4 +1,6 @@
 // How much veneer is in each piece: each face's sum over the steps of its contours, y for a step east and minus y for a step west.
+#![tactic(auto)]
+
 ghost use Rattle.std.specs.Prelude.{◌≡◌, suc, ◌+◌, ◌*◌, ◌<◌, ◌≤◌, length, get_or, set, pos, nat_abs, ◌+ℤ◌};
 ghost use Rattle.lattice.specs.Size.{Sides, Map, Corner};
 ghost use Rattle.lattice.specs.Planes.{plane};
@@ -18,7 +20,7 @@ use lattice::{RegionId, Size, Walker};
 // ONE CONTOUR
 
 // How many of a contour's steps lead to nodes, and its sum: y for each step east, minus y for each step west.
-#[derive(Drop)]
+#[derive(Clone, Copy)]
 struct Round {
     nodes: u32,
     sum: i64,

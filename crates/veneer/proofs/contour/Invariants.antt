@@ -1,0 +1,10 @@
+-- The loop of `contour`: what it keeps and its measure, the steps that are left.
+use Rattle.face.proofs.contours.Rounds.{ahead}
+use Rattle.veneer.proofs.Walking.{Sofar}
+use Rattle.veneer.proofs.contour.Given as goal
+
+abbrev pub invariant-loop-n : goal.invariant-loop-n
+invariant-loop-n l = Sofar l.s l.labels l.initial.work l.at l.w l.region.0 l.work l.c l.n l.t
+
+abbrev pub decreases-loop-n : goal.decreases-loop-n
+decreases-loop-n l = ahead l.s l.labels l.w l.c
