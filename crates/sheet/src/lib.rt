@@ -1,4 +1,6 @@
 // Millimetres on a sheet: where a corner lies, and the machine moves of a cut list, one at a time.
+#![tactic(auto)]
+
 ghost use Rattle.std.specs.Prelude.{◌≡◌, [], ◌∷◌, ◌-◌, ◌≤◌, false, T};
 ghost use Rattle.calls.specs.Outcome.{map_of, outcome};
 ghost use Rattle.sheet.specs.Sheet.{unfit, unfit_sheet, along as along_of, across_of, down_of};
@@ -11,7 +13,7 @@ use lattice::Size;
 use reader::Corner;
 
 // The two sides in millimetres.
-#[derive(Drop)]
+#[derive(Clone, Copy)]
 pub struct Sheet {
     pub width: f64,
     pub height: f64,
@@ -66,7 +68,7 @@ impl Sheet {
     }
 }
 
-#[derive(Drop)]
+#[derive(Clone, Copy)]
 pub enum Move {
     Travel { x: f64, y: f64 },
     Cut { x: f64, y: f64 },
@@ -117,7 +119,7 @@ pub fn move_at(
 // ALL SEGMENTS
 
 // Where the next move is made: a segment of the list, and a place in it.
-#[derive(Drop)]
+#[derive(Clone, Copy)]
 pub struct Place {
     pub segment: u32,
     pub place: u32,
@@ -163,7 +165,7 @@ fn onward(segments: &[u32], points: &[u32], count: u32, segment: u32, place: u32
 }
 
 // A sheet, the sides of its map, how many segments there are, whether each is read backwards, and the place of the next move.
-#[derive(Drop)]
+#[derive(Clone, Copy)]
 pub struct Mover {
     pub sheet: Sheet,
     pub width: u32,
@@ -174,7 +176,7 @@ pub struct Mover {
 }
 
 // What a call makes, and the mover for the next call.
-#[derive(Drop)]
+#[derive(Clone, Copy)]
 pub struct Step {
     pub made: Move,
     pub mover: Mover,
