@@ -6,7 +6,7 @@ use native.Mathlib.Omega.{arith}
 use native.Mathlib.Nat.{zero-add}
 use native.Mathlib.Decide.{dec_lt, ℕ_discrete}
 use lib.ListN.{length, take, drop, length-append}
-use lib.Seq.{take_at, drop_at, drop_drop, length-take-le}
+use lib.Seq.{take_at, drop_at, drop-drop, length-take-le}
 use Rattle.rules.specs.Lists.{flat}
 use Rattle.rules.specs.Graph.{nodes, segments}
 use Rattle.rules.specs.Face.{faces}
@@ -128,7 +128,7 @@ module _ (t : Size) (start : ℕ) (labels work : List ℕ) (s : Stores) where
 drop_more : (n : ℕ) (r x s : List ℕ) → n ≤ length x → drop (length r) (drop n s) ≡ drop (length (take n x ++ r)) s
 drop_more n r x s h =
     let e : n + length r ≡ length (take n x ++ r) = omega (arith, length-append (take n x) r, length-take-le n x h) in
-    drop_drop (length r) n s ∙ ap (λ (k : ℕ). drop k s) e
+    drop-drop (length r) n s ∙ ap (λ (k : ℕ). drop k s) e
 
 pub left_is : (ts : List Size) (start : ℕ) (labels work : List ℕ) (s : Stores) → (run ts start labels work s).left ≡ both drop (lengths (run ts start labels work s).records) s
 unfolding run

@@ -1,4 +1,6 @@
 // A tray of maps: many small maps over one label store and one set of stores (docs/RULES.md, #108).
+#![tactic(auto)]
+
 ghost use Rattle.std.specs.Prelude.{◌≡◌, ◌+◌, ◌*◌, ◌≤◌, length};
 ghost use Rattle.std.proofs.lemmas.List.Edits.{sets};
 ghost use Rattle.calls.specs.Outcome.{answer_of};
@@ -9,7 +11,7 @@ use calls::Answer;
 use lattice::Size;
 
 // How many labels are taken, and whether a part ran past the label store; then the words of each store that hold records.
-#[derive(Drop)]
+#[derive(Clone, Copy)]
 struct Places {
     labels: usize,
     past: bool,
