@@ -1,4 +1,6 @@
 // Assembling at the bench: the faces of a map over a graph that another writer made.
+#![tactic(auto)]
+
 ghost use Rattle.std.specs.Prelude.{◌≡◌, [], ◌∷◌};
 ghost use Rattle.rules.specs.Calls.{first_hit};
 ghost use Rattle.accept.specs.Walks.{given};
