@@ -1,4 +1,6 @@
 // A bench's listing of its pieces, by unit steps, from the labels and the work store alone (docs/RULES.md, #110).
+#![tactic(auto)]
+
 pub mod marks;
 pub mod names;
 pub mod prepare;
@@ -15,7 +17,7 @@ ghost use Rattle.listing.specs.Listed.{listed};
 use lattice::Size;
 
 // The number, and the listing's length, 0 when refused.
-#[derive(Drop)]
+#[derive(Clone, Copy)]
 pub struct Answer {
     pub number: u32,
     pub length: u32,
