@@ -1,4 +1,6 @@
 // Job files: words and kinds of records in a slice of bytes, and the test of the first record.
+#![tactic(auto)]
+
 pub mod salvage;
 pub mod write;
 

@@ -208,7 +208,7 @@ fn faces_after(faces: bool, k: u32) -> bool
 
 // WHAT IS KEPT: its length, and the kind of the first record dropped
 
-#[derive(Drop)]
+#[derive(Clone, Copy)]
 struct Kept {
     length: usize,
     kind: u32,
@@ -257,7 +257,7 @@ fn copy(from: &[u8], n: usize, to: &mut [u8])
     }
 }
 
-#[derive(Drop)]
+#[derive(Clone, Copy)]
 pub struct Salvaged {
     pub number: u32,
     pub length: u64,

@@ -198,7 +198,7 @@ fn put_faces(
 // THE FILE
 
 // The numbers of a map and the five counts that its file's length follows from.
-#[derive(Drop)]
+#[derive(Clone, Copy)]
 pub struct Job {
     pub width: u32,
     pub height: u32,
@@ -236,6 +236,7 @@ pub fn file_size(j: Job) -> u64
 }
 
 // 19, then 13: asked of the counts, before any store is written.
+#[tactic(auto, unfolding(crate::specs::Stored::file_number, rules::specs::Calls::first_hit))]
 pub fn check_file(paints: u32, room: u64, size: u64) -> u32
     ensures { result ≡ file_number paints room size }
 {

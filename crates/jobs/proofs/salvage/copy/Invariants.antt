@@ -1,0 +1,12 @@
+-- The loop of `salvage::copy`: what it keeps and its measure.
+use Prim.Native.Nat.{◌-◌, ◌≤◌}
+use mathlib.Core.Path.{◌≡◌}
+use mathlib.Core.List.{◌++◌}
+use lib.ListN.{length, take, drop}
+use Rattle.jobs.proofs.salvage.copy.Given as goal
+
+abbrev pub invariant-loop-k : goal.invariant-loop-k
+invariant-loop-k l = (l.k ≤ l.n) × (length l.to ≡ length l.initial.to) × (l.to ≡ take l.k l.from ++ drop l.k l.initial.to)
+
+abbrev pub decreases-loop-k : goal.decreases-loop-k
+decreases-loop-k l = l.n - l.k
