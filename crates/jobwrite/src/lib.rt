@@ -1,4 +1,6 @@
 // A map written as a job file: the whole call without cuts through waste, then its file.
+#![tactic(auto)]
+
 ghost use Rattle.std.specs.Prelude.{◌≡◌, [], ◌∷◌};
 ghost use Rattle.calls.specs.Outcome.{map_with};
 ghost use Rattle.jobfile.specs.JobFile.{write as write_of};
@@ -9,7 +11,7 @@ use jobs::write::Job;
 use lattice::Size;
 
 // The whole call's answer, its number 19 and 13 too, and the file's length, 0 when refused.
-#[derive(Drop)]
+#[derive(Clone, Copy)]
 pub struct Written {
     pub answer: Answer,
     pub length: u64,
