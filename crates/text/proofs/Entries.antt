@@ -1,35 +1,10 @@
 -- The lines of the text, entry by entry, and what the store holds after each.
-use Rattle.std.proofs.Common.{◌≡◌, ℕ, zero, suc, ◌+◌, ◌-◌, ◌<◌, ◌≤◌, Bool, true, false, List, [], ◌∷◌, length, drop, set, sym, refl, ap, ◌∙◌, subst, add-zero, arith, length-set, eq-eqb, ne_eqb}
+use Rattle.std.proofs.Common.{◌≡◌, ℕ, zero, suc, ◌+◌, ◌-◌, ◌<◌, ◌≤◌, Bool, true, false, List, [], ◌∷◌, length, set, sym, refl, ap, ◌∙◌, add-zero, arith, length-set, eq-eqb, ne_eqb}
 use lib.Seq.{sets, length-sets}
 use Rattle.store.proofs.Writes.{sets_append}
-use Rattle.text.specs.Grammar.{SPACE, NEWLINE, Read, got, bad, read_number, read_label, Rest, left, broken, Lines, more, entries, line, after, lines, Header, header, no_header, read_header}
-use Rattle.text.specs.Places.{FieldIs, HeadIs, PlaceIs, LinesRead}
-use Rattle.text.specs.declared.scan.Field.{Field}
-use Rattle.text.specs.declared.scan.Field.TheVariants.{Got, Not}
-use Rattle.text.specs.declared.lines.Head.{Head}
-use Rattle.text.specs.declared.lines.Head.TheVariants.{Good, Bad}
+use Rattle.text.specs.Grammar.{SPACE, NEWLINE, Read, got, bad, read_number, read_label, left, broken, Lines, more, entries, line, after, lines, header, no_header, read_header}
+use Rattle.text.specs.Places.{PlaceIs, LinesRead}
 use Rattle.text.specs.declared.lines.Place.{Place}
-use Rattle.text.specs.declared.lines.Place.TheVariants.{At, Broken}
-
--- THE ANSWERS, by the variant that was met
-
-pub field_got : (text : List ℕ) (x : Read) (r : Field) (v n : ℕ) → FieldIs text x r → r ≡ Got v n → (x ≡ got v (drop n text)) × (n ≤ length text)
-field_got text x r v n h e = subst (λ (f : Field). FieldIs text x f) e h
-
-pub field_not : (text : List ℕ) (x : Read) (r : Field) → FieldIs text x r → r ≡ Not → x ≡ bad
-field_not text x r h e = subst (λ (f : Field). FieldIs text x f) e h
-
-pub place_at : (text : List ℕ) (x : Rest) (r : Place) (n : ℕ) → PlaceIs text x r → r ≡ At n → (x ≡ left (drop n text)) × (n ≤ length text)
-place_at text x r n h e = subst (λ (f : Place). PlaceIs text x f) e h
-
-pub place_broken : (text : List ℕ) (x : Rest) (r : Place) → PlaceIs text x r → r ≡ Broken → x ≡ broken
-place_broken text x r h e = subst (λ (f : Place). PlaceIs text x f) e h
-
-pub head_good : (text : List ℕ) (x : Header) (r : Head) (w h p n : ℕ) → HeadIs text x r → r ≡ Good w h p n → (x ≡ header w h p (drop n text)) × (n ≤ length text)
-head_good text x r w h p n k e = subst (λ (f : Head). HeadIs text x f) e k
-
-pub head_bad : (text : List ℕ) (x : Header) (r : Head) → HeadIs text x r → r ≡ Bad → x ≡ no_header
-head_bad text x r k e = subst (λ (f : Head). HeadIs text x f) e k
 
 -- THE HEADER
 

@@ -2,7 +2,7 @@
 use Rattle.std.proofs.Common.{◌≡◌, ℕ, zero, suc, ◌<◌, ◌≤◌, Bool, true, false, eqb, leb, List, [], ◌∷◌, ◌++◌, length, sym, refl, ap, ◌∙◌, ap₂, append_assoc, append-nil, arith, take_at, drop_at, eqb-true, leb-true}
 use Rattle.rules.specs.Picture.{OUTSIDE}
 use Rattle.text.specs.Grammar.{SPACE, NEWLINE, DOT, Number, number, unreadable, decimal, at_most, label, Word, word, endless, longer, up_to, Read, got, bad, before, reading, read_number, read_label, Rest, left, broken, Lines, more, entries, line, after, lines, Header, header, no_header, read_header}
-use Rattle.text.specs.Parse.{body, parsed}
+use Rattle.text.specs.Parse.{parsed}
 use Rattle.text.specs.Output.{shown}
 use Rattle.text.specs.Written.{entry_of, line_of, lines_of, text_of}
 use Rattle.text.specs.declared.Parsed.TheVariants.{Map}

@@ -1,4 +1,6 @@
 // The text of a map read, and its cut list printed: the whole of `textmap` between its input and its output.
+#![tactic(auto)]
+
 mod lines;
 mod mark;
 mod print;
@@ -22,7 +24,7 @@ const CORNERS: usize = 17 * 17;
 
 const CRACKS: usize = 2 * 16 * 16 + 16 + 16;
 
-#[derive(Drop)]
+#[derive(Clone, Copy)]
 pub enum Parsed {
     Map {
         width: u32,

@@ -6,7 +6,7 @@ ghost use Rattle.text.specs.Places.{HeadIs, PlaceIs, LinesRead};
 use crate::scan;
 use crate::scan::Field;
 
-#[derive(Drop)]
+#[derive(Clone, Copy)]
 pub enum Head {
     Good {
         width: u32,
@@ -18,7 +18,7 @@ pub enum Head {
 }
 
 // The place that follows what was read.
-#[derive(Drop)]
+#[derive(Clone, Copy)]
 pub enum Place {
     At(usize),
     Broken,

@@ -1,0 +1,17 @@
+-- `mark::steps_east` meets its contract.
+use Rattle.std.proofs.Common.{arith}
+use Rattle.text.specs.Mark.{step_east}
+use Rattle.text.proofs.Marking.{summing_none, summing_more, summing_all}
+use Rattle.text.proofs.mark.steps_east.Goals as goal
+
+pub loop-i-init : goal.loop-i-init
+loop-i-init c =
+    let a = c.args in
+    summing_none (step_east a.points.now a.way) a.n a.first
+
+pub loop-i-preserved : goal.loop-i-preserved
+loop-i-preserved c =
+    summing_more _ (omega arith) c.loop-i-test.true c.step_east-v.ensures c.wrapping_add_u64-t.ensures.value c.loop-i.invariant
+
+pub returns : goal.returns
+returns c = summing_all c.loop-i-test.false c.loop-i.invariant
