@@ -5,8 +5,7 @@ ghost use Rattle.calls.specs.Outcome.{answered};
 ghost use Rattle.workbench.specs.Bench.{assemble as assemble_of};
 ghost use Rattle.calls.specs.Mode.{map_in};
 
-#[unsafe(no_mangle)]
-pub extern "C" fn mosaic_assemble(
+pub fn mosaic_assemble(
     mode: u32,
     width: u32,
     height: u32,

@@ -3,8 +3,7 @@ ghost use Rattle.std.specs.Prelude.{◌≡◌};
 ghost use Rattle.layers.specs.Layers.{flatten as flatten_of};
 ghost use Rattle.layers.specs.Painting.{flat};
 
-#[unsafe(no_mangle)]
-pub extern "C" fn mosaic_layers(
+pub fn mosaic_layers(
     width: u32,
     height: u32,
     layers: &[u32],

@@ -6,8 +6,7 @@ ghost use Rattle.jobfile.specs.Salvage.{salvage as salvage_of};
 ghost use Rattle.mosaic.specs.JobWords.{written_in, salvage_words, salvaged_in};
 
 // In the mode without cuts through waste, so it takes none.
-#[unsafe(no_mangle)]
-pub extern "C" fn mosaic_write(
+pub fn mosaic_write(
     width: u32,
     height: u32,
     paints: u32,
@@ -40,8 +39,7 @@ fn put_salvaged(answer: &mut [u64; 3], r: jobs::salvage::Salvaged)
     *answer = [r.number as u64, r.length, r.kind as u64];
 }
 
-#[unsafe(no_mangle)]
-pub extern "C" fn mosaic_salvage(file: &[u8], out: &mut [u8], answer: &mut [u64; 3])
+pub fn mosaic_salvage(file: &[u8], out: &mut [u8], answer: &mut [u64; 3])
     ensures { salvaged_in answer.new out.new ≡ salvage_of file.now out.old }
 {
     put_salvaged(answer, jobs::salvage::salvage(file, out));

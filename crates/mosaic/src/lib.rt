@@ -1,4 +1,6 @@
 // The library for C programs: each function is one of the calls. A slice is a pointer and a length, the answer a pointer to eight words.
+#![tactic(auto)]
+
 pub mod bench;
 pub mod flatten;
 pub mod job;
@@ -16,8 +18,7 @@ ghost use Rattle.calls.specs.Mode.{map_in};
 use calls::Answer;
 
 // MOSAIC_VERSION of the header that this library goes with.
-#[unsafe(no_mangle)]
-pub extern "C" fn mosaic_version() -> u32
+pub fn mosaic_version() -> u32
     ensures { result ≡ 20000 }
 {
     20000
@@ -38,8 +39,7 @@ fn put_answer(answer: &mut [u32; 8], a: Answer)
     ];
 }
 
-#[unsafe(no_mangle)]
-pub extern "C" fn mosaic_size(
+pub fn mosaic_size(
     mode: u32,
     width: u32,
     height: u32,
@@ -54,8 +54,7 @@ pub extern "C" fn mosaic_size(
     put_answer(answer, calls::size(s, labels, work));
 }
 
-#[unsafe(no_mangle)]
-pub extern "C" fn mosaic_graph(
+pub fn mosaic_graph(
     mode: u32,
     width: u32,
     height: u32,
@@ -76,8 +75,7 @@ pub extern "C" fn mosaic_graph(
     );
 }
 
-#[unsafe(no_mangle)]
-pub extern "C" fn mosaic_whole(
+pub fn mosaic_whole(
     mode: u32,
     width: u32,
     height: u32,

@@ -4,8 +4,7 @@ ghost use Rattle.benches.specs.Listing.{listing as listing_call};
 ghost use Rattle.listing.specs.Listed.{listed_words};
 ghost use Rattle.calls.specs.Mode.{map_in};
 
-#[unsafe(no_mangle)]
-pub extern "C" fn mosaic_listing(
+pub fn mosaic_listing(
     mode: u32,
     width: u32,
     height: u32,

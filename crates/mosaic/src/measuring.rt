@@ -4,8 +4,7 @@ ghost use Rattle.veneer.specs.Sums.{veneer as veneer_of};
 ghost use Rattle.veneer.specs.Steps.{measured_words};
 ghost use Rattle.calls.specs.Mode.{map_in};
 
-#[unsafe(no_mangle)]
-pub extern "C" fn mosaic_veneer(
+pub fn mosaic_veneer(
     mode: u32,
     width: u32,
     height: u32,

@@ -4,8 +4,7 @@ ghost use Rattle.merge.specs.Merge.{merge as merge_of};
 ghost use Rattle.merge.specs.Called.{answered};
 ghost use Rattle.calls.specs.Mode.{map_in};
 
-#[unsafe(no_mangle)]
-pub extern "C" fn mosaic_merge(
+pub fn mosaic_merge(
     width: u32,
     height: u32,
     paints: u32,

@@ -11,8 +11,7 @@ ghost use Rattle.mosaic.specs.Moved.{code_of, point_after, mover_at, MoveTold};
 use sheet::{Move, Mover, Place, Sheet};
 
 // The whole cut list of a map that is to be cut from a sheet.
-#[unsafe(no_mangle)]
-pub extern "C" fn mosaic_sheet_whole(
+pub fn mosaic_sheet_whole(
     mode: u32,
     width: u32,
     height: u32,
@@ -64,8 +63,7 @@ fn put_move(made: Move, point: &mut [f64; 2]) -> u32
 }
 
 // The next move of the mover at the place `at`, a segment and a place in it; `reversed` is 0 to read each segment forward, any other value backwards.
-#[unsafe(no_mangle)]
-pub extern "C" fn mosaic_move(
+pub fn mosaic_move(
     width: u32,
     height: u32,
     sheet_width: f64,

@@ -3,8 +3,7 @@ ghost use Rattle.std.specs.Prelude.{◌≡◌};
 ghost use Rattle.tray.specs.Tray.{tray as tray_of};
 ghost use Rattle.tray.specs.Steps.{stores_with, afterwards};
 
-#[unsafe(no_mangle)]
-pub extern "C" fn mosaic_tray(
+pub fn mosaic_tray(
     mode: u32,
     maps: &[u32],
     labels: &[u32],
