@@ -1,0 +1,24 @@
+// The exports of `mosaic::merging`.
+ghost use Rattle.std.specs.Prelude.{◌≡◌};
+ghost use Rattle.merge.specs.Merge.{merge as merge_of};
+ghost use Rattle.merge.specs.Called.{answered};
+ghost use Rattle.calls.specs.Mode.{map_in};
+
+#[unsafe(no_mangle)]
+pub extern "C" fn mosaic_merge(
+    width: u32,
+    height: u32,
+    paints: u32,
+    labels: &mut [u32],
+    colours: &mut [u8],
+    limit: i32,
+    work: &mut [u32],
+    regions: &mut [u32],
+    answer: &mut [u32; 2],
+)
+    ensures { answered answer.new labels.new colours.new work.new regions.new ≡ merge_of (map_in 0 width height paints labels.old) limit colours.old work.old regions.old }
+{
+    mosaic::merging::mosaic_merge(
+        width, height, paints, labels, colours, limit, work, regions, answer,
+    );
+}
