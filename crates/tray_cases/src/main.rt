@@ -1,12 +1,14 @@
 // Forty small maps by single calls, map after map, and then in one tray over stores of its own: prints the forty numbers, what a tray answers with an
 // answer word too few, and how many words of each store differ.
+#![tactic(auto)]
+
 ghost use Rattle.std.specs.Prelude.{◌≤◌};
 
 use calls::Answer;
-use libc::STDOUT_FILENO;
+use std::io;
 
 // The words of each store that are used, and the labels that are taken.
-#[derive(Drop)]
+#[derive(Clone, Copy)]
 struct Places {
     labels: usize,
     nodes: usize,
@@ -23,47 +25,41 @@ fn least(a: usize, b: usize) -> usize
     if a < b { a } else { b }
 }
 
-fn say(text: &[u8]) {
-    io::write_all(STDOUT_FILENO, text);
+fn say(rt: &impl Print, text: &[u8]) -> io::Result<()> {
+    rt.write_all(text)
 }
 
-fn number(n: u32) {
-    say(b" ");
-    io::print_decimal(STDOUT_FILENO, n as u64);
+fn number(rt: &impl Print, n: u32) -> io::Result<()> {
+    print!(rt; " {n}")
 }
 
 fn one_if_other(a: u32, b: u32) -> u32 {
     if a == b { 0 } else { 1 }
 }
 
-fn numbers(words: &[u32]) {
-    let mut i: usize = 0;
-    while i < words.len() {
-        number(words[i]);
-        i += 1;
+fn numbers(rt: &impl Print, words: &[u32]) -> io::Result<()> {
+    for word in words {
+        number(rt, *word)?;
     }
+    Ok(())
 }
 
 // How many words of xs are others in ys.
 fn differ(xs: &[u32], ys: &[u32]) -> u32 {
     let mut count: u32 = 0;
-    let mut i: usize = 0;
-    while i < xs.len() {
-        count = std::num::wrapping_add_u32(count, one_if_other(xs[i], store::get(ys, i)));
-        i += 1;
+    for (i, x) in xs.iter().enumerate() {
+        count = count.wrapping_add(one_if_other(*x, store::get(ys, i)));
     }
     count
 }
 
 // Forty maps with sides of 1 to 4 and 0 to 2 pixels, and 0 to 4 paints.
 fn lay_maps(maps: &mut [u32]) {
-    let mut i: u32 = 0;
-    while i < 40 {
+    for i in 0..40u32 {
         let at = 3 * (i as usize);
         store::put(maps, at, 1 + i % 4);
         store::put(maps, at + 1, i % 3);
         store::put(maps, at + 2, i % 5);
-        i += 1;
     }
 }
 
@@ -75,10 +71,8 @@ fn label(n: u32) -> u32 {
 }
 
 fn lay_labels(labels: &mut [u32]) {
-    let mut i: u32 = 0;
-    while i < 200 {
+    for i in 0..200u32 {
         store::put(labels, i as usize, label(5 * i + i / 3));
-        i += 1;
     }
 }
 
@@ -87,14 +81,14 @@ fn behind(at: usize, a: Answer, words: usize) -> usize {
     if a.number != 0 {
         return at;
     }
-    std::num::wrapping_add_usize(at, words)
+    at.wrapping_add(words)
 }
 
 fn put_answer(answers: &mut [u32], at: usize, a: Answer) {
     store::put4(answers, at, a.number, a.nodes, a.segments, a.points);
     store::put4(
         answers,
-        std::num::wrapping_add_usize(at, 4),
+        at.wrapping_add(4),
         a.references,
         a.contours,
         a.faces,
@@ -140,7 +134,7 @@ fn single(
 // The places behind a map's labels and records.
 fn next(p: Places, s: lattice::Size, a: Answer) -> Places {
     Places {
-        labels: std::num::wrapping_add_usize(p.labels, tray::pixels(s)),
+        labels: p.labels.wrapping_add(tray::pixels(s)),
         nodes: behind(p.nodes, a, 6 * (a.nodes as usize)),
         segments: behind(p.segments, a, 8 * (a.segments as usize)),
         points: behind(p.points, a, 2 * (a.points as usize)),
@@ -152,6 +146,7 @@ fn next(p: Places, s: lattice::Size, a: Answer) -> Places {
 
 // Map after map by single calls.
 fn one_by_one(
+    rt: &impl Print,
     maps: &[u32],
     labels: &[u32],
     work: &mut [u32],
@@ -162,7 +157,7 @@ fn one_by_one(
     contours: &mut [u32],
     faces: &mut [u32],
     answers: &mut [u32],
-) {
+) -> io::Result<()> {
     let mut p = Places {
         labels: 0,
         nodes: 0,
@@ -172,8 +167,7 @@ fn one_by_one(
         contours: 0,
         faces: 0,
     };
-    let mut i: usize = 0;
-    while i < 40 {
+    for i in 0..40usize {
         let s = calls::sized(
             1,
             store::get(maps, 3 * i),
@@ -184,10 +178,10 @@ fn one_by_one(
             s, p, labels, work, nodes, segments, points, references, contours, faces,
         );
         put_answer(answers, 8 * i, a);
-        number(a.number);
+        number(rt, a.number)?;
         p = next(p, s, a);
-        i += 1;
     }
+    Ok(())
 }
 
 // One that is too wide, one that the work store is too short for, and at the end two whose labels run past the store.
@@ -199,7 +193,7 @@ fn refused_between(maps: &mut [u32]) {
 }
 
 // An answer word too few: the number, and how many words changed.
-fn too_few(maps: &[u32], labels: &[u32]) {
+fn too_few(rt: &impl Print, maps: &[u32], labels: &[u32]) -> io::Result<()> {
     let mut stores = [9u32; 150];
     let mut nodes = [0u32; 0];
     let mut segments = [0u32; 0];
@@ -221,14 +215,15 @@ fn too_few(maps: &[u32], labels: &[u32]) {
         &mut faces,
         &mut answers,
     );
-    say(b"\n319 answer words:");
-    number(number_18);
-    number(differ(&stores, &[9u32; 150]));
-    number(differ(&answers, &[9u32; 319]));
+    say(rt, b"\n319 answer words:")?;
+    number(rt, number_18)?;
+    number(rt, differ(&stores, &[9u32; 150]))?;
+    number(rt, differ(&answers, &[9u32; 319]))
 }
 
 // The tray over stores of its own, and how many words are others than the single calls left.
 fn compare(
+    rt: &impl Print,
     maps: &[u32],
     labels: &[u32],
     work_1: &[u32],
@@ -239,7 +234,7 @@ fn compare(
     contours_1: &[u32],
     faces_1: &[u32],
     answers_1: &[u32],
-) {
+) -> io::Result<()> {
     let mut work = [9u32; 150];
     let mut nodes = [9u32; 600];
     let mut segments = [9u32; 1200];
@@ -271,14 +266,14 @@ fn compare(
         differ(&contours, contours_1),
         differ(&faces, faces_1),
     ];
-    say(b"\na tray:");
-    number(answered);
-    say(b"\nwords that differ:");
-    numbers(&different);
-    say(b"\n");
+    say(rt, b"\na tray:")?;
+    number(rt, answered)?;
+    say(rt, b"\nwords that differ:")?;
+    numbers(rt, &different)?;
+    say(rt, b"\n")
 }
 
-fn main() {
+fn main(rt: HostRuntime) -> io::Result<()> {
     let mut maps = [9u32; 122];
     let mut labels = [0u32; 97];
     lay_maps(&mut maps);
@@ -293,6 +288,7 @@ fn main() {
     let mut faces = [9u32; 250];
     let mut answers = [9u32; 325];
     one_by_one(
+        &rt,
         &maps,
         &labels,
         &mut work,
@@ -303,9 +299,10 @@ fn main() {
         &mut contours,
         &mut faces,
         &mut answers,
-    );
-    too_few(&maps, &labels);
+    )?;
+    too_few(&rt, &maps, &labels)?;
     compare(
+        &rt,
         &maps,
         &labels,
         &work,
@@ -316,5 +313,5 @@ fn main() {
         &contours,
         &faces,
         &answers,
-    );
+    )
 }
