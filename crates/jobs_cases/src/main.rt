@@ -1,43 +1,45 @@
 // Writes the map of two pixels as a job file, refused and then in full, a record to a line; and salvages that file whole, cut and damaged.
-use libc::STDOUT_FILENO;
+#![tactic(auto)]
 
-fn text(t: &[u8]) {
-    io::write_all(STDOUT_FILENO, t);
+use std::io;
+
+fn text(rt: &impl Print, t: &[u8]) -> io::Result<()> {
+    rt.write_all(t)
 }
 
-fn number(n: u64) {
-    text(b" ");
-    io::print_decimal(STDOUT_FILENO, n);
+fn number(rt: &impl Print, n: u64) -> io::Result<()> {
+    print!(rt; " {n}")
 }
 
 // BYTES in hexadecimal
 
-fn digit(n: u8) {
-    let d = n % 16;
-    let shown = if d < 10 { d + 48 } else { d + 87 };
-    let one = [shown];
-    text(&one);
+fn digit(rt: &impl Print, n: u8) -> io::Result<()> {
+    print!(rt; "{:x}", n % 16)
 }
 
 // The bytes from a place up to another.
-fn part(bytes: &[u8], from: usize, end: usize) {
+fn part(rt: &impl Print, bytes: &[u8], from: usize, end: usize) -> io::Result<()> {
     if bytes.len() < end {
-        return;
+        return Ok(());
     }
-    let mut i = from;
-    while i < end {
-        text(b" ");
-        digit(bytes[i] / 16);
-        digit(bytes[i]);
-        i += 1;
+    for i in from..end {
+        text(rt, b" ")?;
+        digit(rt, bytes[i] / 16)?;
+        digit(rt, bytes[i])?;
     }
-    text(b"\n");
+    text(rt, b"\n")
 }
 
 // WRITTEN
 
 // The map `0 1` with a paint count, and so many bytes lent for its file: what is answered.
-fn writes(name: &[u8], paints: u32, references: &mut [u32], file: &mut [u8]) {
+fn writes(
+    rt: &impl Print,
+    name: &[u8],
+    paints: u32,
+    references: &mut [u32],
+    file: &mut [u8],
+) -> io::Result<()> {
     let labels = [0, 1];
     let mut work = [7u32; 48];
     let mut nodes = [7u32; 12];
@@ -59,57 +61,59 @@ fn writes(name: &[u8], paints: u32, references: &mut [u32], file: &mut [u8]) {
         &mut faces,
         file,
     );
-    text(name);
-    number(r.answer.number as u64);
-    number(r.length);
-    text(b"\n");
+    text(rt, name)?;
+    number(rt, r.answer.number as u64)?;
+    number(rt, r.length)?;
+    text(rt, b"\n")
 }
 
-fn refused() {
+fn refused(rt: &impl Print) -> io::Result<()> {
     let mut few = [7u32; 3];
     let mut enough = [7u32; 4];
     let mut short = [255u8; 183];
     writes(
+        rt,
         b"three references and too many paints:",
         65536,
         &mut few,
         &mut short,
-    );
+    )?;
     writes(
+        rt,
         b"too many paints, and a short store:",
         65536,
         &mut enough,
         &mut short,
-    );
-    writes(b"a store of 183 bytes:", 2, &mut enough, &mut short);
-    part(&short, 0, 6);
+    )?;
+    writes(rt, b"a store of 183 bytes:", 2, &mut enough, &mut short)?;
+    part(rt, &short, 0, 6)
 }
 
-fn written(file: &mut [u8]) {
+fn written(rt: &impl Print, file: &mut [u8]) -> io::Result<()> {
     let mut references = [7u32; 4];
-    writes(b"a store of 186 bytes:", 2, &mut references, file);
-    part(file, 0, 18);
-    part(file, 18, 56);
-    part(file, 56, 78);
-    part(file, 78, 116);
-    part(file, 116, 150);
-    part(file, 150, 184);
-    part(file, 184, 186);
+    writes(rt, b"a store of 186 bytes:", 2, &mut references, file)?;
+    part(rt, file, 0, 18)?;
+    part(rt, file, 18, 56)?;
+    part(rt, file, 56, 78)?;
+    part(rt, file, 78, 116)?;
+    part(rt, file, 116, 150)?;
+    part(rt, file, 150, 184)?;
+    part(rt, file, 184, 186)
 }
 
 // SALVAGED
 
 // The first n bytes of the file.
-fn salvages(name: &[u8], file: &[u8], n: usize, out: &mut [u8]) {
+fn salvages(rt: &impl Print, name: &[u8], file: &[u8], n: usize, out: &mut [u8]) -> io::Result<()> {
     if file.len() < n {
-        return;
+        return Ok(());
     }
     let r = jobs::salvage::salvage(&file[0..n], out);
-    text(name);
-    number(r.number as u64);
-    number(r.length);
-    number(r.kind as u64);
-    text(b"\n");
+    text(rt, name)?;
+    number(rt, r.number as u64)?;
+    number(rt, r.length)?;
+    number(rt, r.kind as u64)?;
+    text(rt, b"\n")
 }
 
 fn put(file: &mut [u8], at: usize, byte: u8) {
@@ -118,28 +122,28 @@ fn put(file: &mut [u8], at: usize, byte: u8) {
     }
 }
 
-fn salvaged(file: &mut [u8]) {
+fn salvaged(rt: &impl Print, file: &mut [u8]) -> io::Result<()> {
     let mut out = [255u8; 184];
     let mut short = [255u8; 183];
-    salvages(b"whole, number, length and kind:", file, 184, &mut out);
-    salvages(b"a store of 183 bytes:", file, 184, &mut short);
-    part(&short, 0, 6);
-    salvages(b"cut at 183:", file, 183, &mut out);
-    salvages(b"cut at 22:", file, 22, &mut out);
-    salvages(b"cut at 17:", file, 17, &mut out);
+    salvages(rt, b"whole, number, length and kind:", file, 184, &mut out)?;
+    salvages(rt, b"a store of 183 bytes:", file, 184, &mut short)?;
+    part(rt, &short, 0, 6)?;
+    salvages(rt, b"cut at 183:", file, 183, &mut out)?;
+    salvages(rt, b"cut at 22:", file, 22, &mut out)?;
+    salvages(rt, b"cut at 17:", file, 17, &mut out)?;
     put(file, 154, 2);
-    salvages(b"a segment behind a face:", file, 184, &mut out);
+    salvages(rt, b"a segment behind a face:", file, 184, &mut out)?;
     put(file, 154, 3);
     put(file, 183, 1);
-    salvages(b"a segment that is not there:", file, 184, &mut out);
+    salvages(rt, b"a segment that is not there:", file, 184, &mut out)?;
     put(file, 62, 2);
-    salvages(b"two points a diagonal apart:", file, 184, &mut out);
-    part(&out, 0, 18);
+    salvages(rt, b"two points a diagonal apart:", file, 184, &mut out)?;
+    part(rt, &out, 0, 18)
 }
 
-fn main() {
-    refused();
+fn main(rt: HostRuntime) -> io::Result<()> {
+    refused(&rt)?;
     let mut file = [255u8; 186];
-    written(&mut file);
-    salvaged(&mut file);
+    written(&rt, &mut file)?;
+    salvaged(&rt, &mut file)
 }
