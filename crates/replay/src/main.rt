@@ -1,16 +1,18 @@
 // Runs the answers of the Rust, which stand as data in the file `stdin`, through the library, and compares them word for word.
 // `differential/run answers` wrote that file; a map has sides up to 10 there.
+#![tactic(auto)]
+
 ghost use Rattle.std.specs.Prelude.{◌≡◌, ◌≤◌, length};
 
 use calls::Answer;
 use lattice::Size;
-use libc::{STDIN_FILENO, STDOUT_FILENO};
+use std::io;
 
 // What a store holds before a call: a word that no record of the data has.
 const OLD: u32 = 3000000000;
 
 // How far the data is read, and what was compared.
-#[derive(Drop)]
+#[derive(Clone, Copy)]
 struct Tally {
     at: usize,
     words: u64,
@@ -34,10 +36,10 @@ fn byte(data: &[u8], at: usize) -> u32
 
 // The word of the four bytes behind a place, the lowest first.
 fn four(data: &[u8], at: usize) -> u32 {
-    let b0 = byte(data, std::num::wrapping_add_usize(at, 1));
-    let b1 = byte(data, std::num::wrapping_add_usize(at, 2));
-    let b2 = byte(data, std::num::wrapping_add_usize(at, 3));
-    let b3 = byte(data, std::num::wrapping_add_usize(at, 4));
+    let b0 = byte(data, at.wrapping_add(1));
+    let b1 = byte(data, at.wrapping_add(2));
+    let b2 = byte(data, at.wrapping_add(3));
+    let b3 = byte(data, at.wrapping_add(4));
     b0 + 256 * b1 + 65536 * b2 + 16777216 * b3
 }
 
@@ -56,9 +58,9 @@ fn word(data: &[u8], at: usize) -> u32 {
 // The place behind that code.
 fn behind(data: &[u8], at: usize) -> usize {
     if byte(data, at) == 255 {
-        return std::num::wrapping_add_usize(at, 5);
+        return at.wrapping_add(5);
     }
-    std::num::wrapping_add_usize(at, 1)
+    at.wrapping_add(1)
 }
 
 // The places in so many columns and rows; none where there are more than 11, and the library's refusal is then a difference.
@@ -85,9 +87,9 @@ impl Tally {
     // With one word compared.
     fn word(self, found: u32, wanted: u32) -> Tally {
         let mut t = self;
-        t.words = std::num::wrapping_add_u64(t.words, 1);
+        t.words = t.words.wrapping_add(1);
         if found != wanted {
-            t.differences = std::num::wrapping_add_u64(t.differences, 1);
+            t.differences = t.differences.wrapping_add(1);
         }
         t
     }
@@ -95,10 +97,8 @@ impl Tally {
     // With two stores compared, the second as long as the first.
     fn same(self, found: &[u32], wanted: &[u32]) -> Tally {
         let mut t = self;
-        let mut i: usize = 0;
-        while i < found.len() {
-            t = t.word(store::get(found, i), store::get(wanted, i));
-            i += 1;
+        for (i, word) in found.iter().enumerate() {
+            t = t.word(*word, store::get(wanted, i));
         }
         t
     }
@@ -106,12 +106,10 @@ impl Tally {
     // Past n words of the data, which are put into a store.
     fn read(self, data: &[u8], words: &mut [u32], n: usize) -> Tally {
         let mut t = self;
-        let mut i: usize = 0;
-        while i < n {
+        for i in 0..n {
             let at = t.at;
             store::put(words, i, word(data, at));
             t.at = behind(data, at);
-            i += 1;
         }
         t
     }
@@ -241,10 +239,8 @@ impl Tally {
     // With n maps of the data compared.
     fn maps(self, data: &[u8], n: u32) -> Tally {
         let mut t = self;
-        let mut i: u32 = 0;
-        while i < n {
+        for _ in 0..n {
             t = t.map(data);
-            i += 1;
         }
         t
     }
@@ -255,10 +251,10 @@ fn ended(t: Tally, data: &[u8]) -> u64 {
     if t.at == data.len() {
         return t.differences;
     }
-    std::num::wrapping_add_u64(t.differences, 1)
+    t.differences.wrapping_add(1)
 }
 
-fn replay(data: &[u8]) {
+fn replay(rt: &impl Print, data: &[u8]) -> io::Result<()> {
     let n = word(data, 0);
     let start = Tally {
         at: behind(data, 0),
@@ -266,12 +262,11 @@ fn replay(data: &[u8]) {
         differences: 0,
     };
     let t = start.maps(data, n);
-    io::print_decimal(STDOUT_FILENO, n as u64);
-    io::write_all(STDOUT_FILENO, b" maps, ");
-    io::print_decimal(STDOUT_FILENO, t.words);
-    io::write_all(STDOUT_FILENO, b" words compared, ");
-    io::print_decimal(STDOUT_FILENO, ended(t, data));
-    io::write_all(STDOUT_FILENO, b" differences\n");
+    let differences = ended(t, data);
+    println!(rt;
+        "{n} maps, {} words compared, {differences} differences",
+        t.words
+    )
 }
 
 // Room for the data.
@@ -281,8 +276,8 @@ fn room() -> [u8; 1000000]
     [0; 1000000]
 }
 
-fn main() {
+fn main(rt: HostRuntime) -> io::Result<()> {
     let mut data = room();
-    let n = io::read_full(STDIN_FILENO, &mut data);
-    replay(&data[..n]);
+    let n = intake::read_full(&mut rt.stdin(), &mut data)?;
+    replay(&rt, &data[..n])
 }
