@@ -11,7 +11,7 @@
  * The others are declared, each with its rules, further down: veneer, a sheet and its moves, layers, merge, a tray, a listing, another
  * writer's graph, job files. The header is C99 and C++.
  *
- * Link the archive that `rt staticlib mosaic` writes, target/staticlib/libmosaic.a (x86-64 Linux). It needs memset and no more of C.
+ * Link the archive that `bindings/archive` makes, target/staticlib/libmosaic.a (x86-64 Linux). It needs memset and no more of C.
  *
  * MODE. Every call that looks at a map takes a mode first. MOSAIC_PLAIN reads each label as it is: two unpainted labels side by side
  * have a cut between them, through scrap. MOSAIC_NO_WASTE (any value but 0) reads every unpainted label as MOSAIC_OUTSIDE, so that no

@@ -1,6 +1,7 @@
 //! Links libmosaic.a: the file that MOSAIC_ARCHIVE names, or the one that `bindings/archive` makes with the Rattle kit.
 
 use std::env;
+use std::fs;
 use std::path::{Path, PathBuf};
 use std::process::{exit, Command};
 use std::time::Instant;
@@ -34,8 +35,7 @@ fn named(archive: PathBuf) -> PathBuf {
 fn made() -> PathBuf {
     let script = Path::new(env!("CARGO_MANIFEST_DIR")).join("../archive");
     println!("cargo:rerun-if-changed={}", script.display());
-    let crates = script.with_file_name("../crates");
-    println!("cargo:rerun-if-changed={}", crates.display());
+    watch(&script.with_file_name(".."));
     let part = |name| env::var(name).expect("cargo names the target");
     let target = format!(
         "{}-{}",
@@ -67,6 +67,20 @@ fn made() -> PathBuf {
     }
     let said = String::from_utf8(made.stdout).expect("a path in UTF-8");
     PathBuf::from(said.lines().last().expect("a path"))
+}
+
+/// Has Cargo look at the crates' sources alone: rt writes beside them, below out/.
+fn watch(root: &Path) {
+    println!(
+        "cargo:rerun-if-changed={}",
+        root.join("crates.txt").display()
+    );
+    let inside = |folder: &Path| fs::read_dir(folder).into_iter().flatten().flatten();
+    for folder in inside(&root.join("crates")) {
+        for part in inside(&folder.path()).filter(|part| part.file_name() != "out") {
+            println!("cargo:rerun-if-changed={}", part.path().display());
+        }
+    }
 }
 
 /// Cargo hides what a build script prints, but for its warnings.

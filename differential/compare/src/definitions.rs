@@ -35,7 +35,7 @@ pub fn compare(root: &Path, most: usize) -> Result<Computed, Box<dyn Error>> {
     let mut differ: Vec<usize> = said.lines().filter_map(refused).collect();
     differ.sort();
     differ.dedup();
-    if differ.is_empty() && !said.contains("rt: compared proved") {
+    if differ.is_empty() && !proved(&said) {
         return Err(format!("antt could not tell:\n{said}").into());
     }
     Ok(Computed {
@@ -43,6 +43,13 @@ pub fn compare(root: &Path, most: usize) -> Result<Computed, Box<dyn Error>> {
         smallest: differ.first().map(|&i| maps[i].clone()),
         differ,
     })
+}
+
+/// Whether rt proved the last crate that it checked; it names each crate and then its verdict.
+fn proved(said: &str) -> bool {
+    let last = |start| said.lines().rfind(|line| line.starts_with(start));
+    last("crate ").is_some_and(|line| line.starts_with("crate compared:"))
+        && last("logic=").is_some_and(|line| line.starts_with("logic=proved "))
 }
 
 /// The number of the map whose theorem a line of the check refuses.
@@ -60,7 +67,10 @@ fn lay_out(root: &Path, scratch: &Path, maps: &[Map]) -> Result<(), Box<dyn Erro
     let compared = scratch.join("crates/compared");
     fs::create_dir_all(compared.join("src"))?;
     fs::create_dir_all(compared.join("proofs"))?;
-    fs::write(compared.join("src/lib.rt"), "// theorems only\n")?;
+    fs::write(
+        compared.join("src/lib.rt"),
+        "// theorems only\n#![tactic(auto)]\n",
+    )?;
     fs::write(scratch.join("crates.txt"), "rules:\ncompared: rules\n")?;
     let (uses, unfolding) = definitions(&rules.join("specs"))?;
     let mut lib = String::new();
@@ -95,19 +105,21 @@ fn files(folder: &Path) -> Result<Vec<PathBuf>, Box<dyn Error>> {
     Ok(paths)
 }
 
-/// What `rt check` says of the scratch repository.
+/// What `rt check` says of the theorems.
 fn check(scratch: &Path) -> Result<String, Box<dyn Error>> {
     let output = Command::new("rt")
         .arg("check")
-        .current_dir(scratch)
+        .current_dir(scratch.join("crates/compared"))
         .output()?;
-    Ok(String::from_utf8_lossy(&output.stdout).into_owned())
+    Ok([output.stdout, output.stderr]
+        .map(|said| String::from_utf8_lossy(&said).into_owned())
+        .join("\n"))
 }
 
 /// The `use` lines for every definition that can be unfolded, and their names.
 fn definitions(specs: &Path) -> Result<(String, String), Box<dyn Error>> {
     let mut uses = String::from(
-        "use mathlib.Core.Path.{_≡_, refl}\nuse mathlib.Core.List.{[], _∷_}\nuse Rattle·rules.specs.Calls.{Map}\n",
+        "use mathlib.Core.Path.{◌≡◌, refl}\nuse mathlib.Core.List.{[], ◌∷◌}\nuse Rattle.rules.specs.Calls.{Map}\n",
     );
     let mut unfolding = String::new();
     for file in files(specs)? {
@@ -119,7 +131,7 @@ fn definitions(specs: &Path) -> Result<(String, String), Box<dyn Error>> {
             .collect();
         if let (Some(module), false) = (file.file_stem(), names.is_empty()) {
             let (module, all) = (module.to_string_lossy(), names.join(", "));
-            writeln!(uses, "use Rattle·rules.specs.{module}.{{{all}}}")?;
+            writeln!(uses, "use Rattle.rules.specs.{module}.{{{all}}}")?;
             write!(unfolding, " {}", names.join(" "))?;
         }
     }
@@ -139,7 +151,7 @@ fn theorem(text: &mut String, i: usize, map: &Map, unfolding: &str) -> Result<()
     } = map.cut_list();
     writeln!(
         text,
-        "pub map{i} : cutList (record {{ width = {}; height = {}; paints = {}; bound = {}; labels = {} }}) ≡ record {{",
+        "pub map{i} : cut_list (record {{ width = {}; height = {}; paints = {}; bound = {}; labels = {} }}) ≡ record {{",
         map.width,
         map.height,
         map.paints,
