@@ -18,7 +18,6 @@ NAME = re.compile(WORD + "+")
 DECL = re.compile(r"(?m)^ *(?:abbrev |unfoldable )?(?:pub )?(" + WORD + r"+)(?= (?:[({].*)?:(?: |$))")
 FIELD = re.compile(r"(?m)^  (?:pub )?(" + WORD + r"+) (?:[({].*)?: ")
 USE = re.compile(r"(?m)^(?:pub )?(?:ghost )?use ([\w.·+-]+)\.\{([^}]*)\}")
-OWN = None
 
 
 def files(root, ends):
@@ -38,13 +37,12 @@ def snake(n):
     if re.match(r"[A-Z]", n):
         head, dash, rest = n.partition("-")
         return head + ("-" + snake(rest) if dash else "")
-    parts = n.split("-")
-    out = parts[0]
-    for p in parts[1:]:
-        out += ("-" if re.match(r"[A-Z][a-z]", p) and False else "_") + p
-    # camel case: leftIn, toX
-    out = re.sub(r"(?<=[a-z0-9])([A-Z])", lambda m: "_" + m.group(1).lower(), out)
-    return out
+    return re.sub(r"(?<=[a-z0-9])([A-Z])", lambda m: "_" + m.group(1).lower(), n.replace("-", "_"))
+
+
+def goals_of(path, text):
+    """The names of goals in a Proof.antt: those whose type is the Tie's."""
+    return set(re.findall(r"(?m)^(" + WORD + r"+) : (?:\(.*\) → )?tie\.", text)) if path.endswith("Proof.antt") else set()
 
 
 def imports(text):
@@ -74,7 +72,7 @@ def main():
     for p, t in texts.items():
         if not p.endswith(".antt"):
             continue
-        goals = set(re.findall(r"(?m)^(" + WORD + r"+) : (?:\(.*\) → )?tie\.", t)) if p.endswith("Proof.antt") else set()
+        goals = goals_of(p, t)
         here = set()
         for m in DECL.finditer(t):
             n = m.group(1)
@@ -91,9 +89,7 @@ def main():
         by_file[p] = here
     for p, t in texts.items():
         for here, (module, there) in imports(t).items():
-            if here != there and is_name(here) and is_own(module):
-                declared.setdefault(here, set()).add(p)
-            elif here != there and is_name(here) and not is_own(module) and re.search(r"[a-z][A-Z]", here):
+            if here != there and is_name(here) and (is_own(module) or re.search(r"[a-z][A-Z]", here)):
                 declared.setdefault(here, set()).add(p)
     tokens = {p: set(NAME.findall(t)) for p, t in texts.items()}
     everywhere = {}
@@ -105,7 +101,7 @@ def main():
         m = snake(n)
         if m != n:
             new[n] = m
-    # names that fall together: with one that stands, or with each other
+
     def stands(m, ns):
         """The files in which both stand: a name of src/ or of a step beside a definition of that name is no clash, a variable is."""
         out = []
@@ -120,6 +116,7 @@ def main():
                 out.append(p)
         return out
 
+    # names that fall together: with one that stands, or with each other
     back = {}
     for n, m in sorted(new.items()):
         back.setdefault(m, []).append(n)
@@ -142,7 +139,7 @@ def main():
     changed = 0
     for p, t in texts.items():
         lib = {here for here, (module, there) in imports(t).items() if not is_own(module) and here == there}
-        goals = set(re.findall(r"(?m)^(" + WORD + r"+) : (?:\(.*\) → )?tie\.", t)) if p.endswith("Proof.antt") else set()
+        goals = goals_of(p, t)
         mine = by_file.get(p, set())
 
         def turn(m):
