@@ -1,20 +1,13 @@
 -- `contour` meets its contract.
-use Prim.Native.Nat.{ℕ, ◌+◌}
+use Prim.Native.Nat.{◌+◌}
 use mathlib.Core.Path.{◌≡◌, sym, ap, ◌∙◌}
-use mathlib.Core.List.{List}
 use native.Mathlib.Omega.{arith}
 use Rattle.rules.specs.Picture.{one}
-use Rattle.lattice.specs.declared.Around.{Around}
-use Rattle.lattice.specs.declared.Size.{Size}
-use Rattle.lattice.specs.declared.Walker.{Walker}
-use Rattle.lattice.specs.Around.{around_of, node_in}
-use Rattle.lattice.specs.Size.{pic}
-use Rattle.lattice.specs.Walker.{dart_of, moved_of}
+use Rattle.lattice.specs.Around.{node_in}
 use Rattle.lattice.proofs.Ways.{edge_corner}
-use Rattle.face.specs.Contours.{turn_in, east_marked}
 use Rattle.face.proofs.contours.Turning.{turn_way}
-use Rattle.face.proofs.contours.Rounds.{edge, may_move, less}
-use Rattle.face.proofs.contours.Walking.{Stepped, few_nodes, same_room}
+use Rattle.face.proofs.contours.Rounds.{turned_by, edge, may_move, less}
+use Rattle.face.proofs.contours.Walking.{stepped_by, few_nodes, same_room}
 use Rattle.veneer.proofs.Walking.{nothing, marked, small_sum, read_back, goes_on, ends}
 use Rattle.veneer.proofs.contour.Goals as goal
 use Rattle.veneer.proofs.contour.Goals.{then-node, else-node}
@@ -47,21 +40,6 @@ pub same-requires : goal.same-requires
 same-requires c =
     record { fact_1 = turn_way c.loop-n.c c.look-a.result c.args.region.0 c.turn-c.result c.turn-c.ensures; fact_2 = c.requires.fact_1.way }
 
--- one turn of the loop
-stepped :
-    {s : Size} {ls : List ℕ} {at region : ℕ} {work : List ℕ} {c m : Walker} {n : ℕ} {work' : List ℕ} {a : Around} {c' : Walker} {n' : ℕ}
-    → m ≡ moved_of c
-    → a ≡ around_of (pic s ls) m.x m.y
-    → c' ≡ turn_in a region c
-    → work' ≡ east_marked at s.width work (dart_of c)
-    → n' ≡ n + one (node_in a)
-    → Stepped s ls at region work c n work' c' n'
-stepped {a = a} moves looks turns marks counts = record {
-  turned = record { around = a; looks = looks ∙ rw moves; turns = turns };
-  marks = marks;
-  counts = counts;
-}
-
 pub returns-then-same : goal.returns-then-same
 returns-then-same c =
     let e = ap one c.node.ensures in
@@ -69,11 +47,11 @@ returns-then-same c =
     elim c.if-node.branch [ then-node w ↦ omega (arith, w.n-is, e, ap one w.if-node.true) | else-node w ↦ omega (arith, w.n-is, e, ap one w.if-node.false) ] in
     let o = c.loop-n.invariant in
     let t = c.risen-t in
-    ends o (stepped c.moved-m.ensures c.look-a.ensures c.turn-c.ensures c.mark_east.ensures counts) (read_back o t.result t.ensures) (sym c.same.ensures ∙ c.if-same.true)
+    ends o (stepped_by c.moved-m.ensures c.look-a.ensures c.turn-c.ensures c.mark_east.ensures counts) (read_back o t.result t.ensures) (sym c.same.ensures ∙ c.if-same.true)
 
 pub loop-n-smaller : goal.loop-n-smaller
 loop-n-smaller c =
-    less c.loop-n.invariant.course (record { around = c.look-a.result; looks = c.look-a.ensures ∙ rw c.moved-m.ensures; turns = c.turn-c.ensures }) (sym c.same.ensures ∙ c.if-same.false)
+    less c.loop-n.invariant.course (turned_by c.moved-m.ensures c.look-a.ensures c.turn-c.ensures) (sym c.same.ensures ∙ c.if-same.false)
 
 pub loop-n-preserved : goal.loop-n-preserved
 loop-n-preserved c =
@@ -82,4 +60,4 @@ loop-n-preserved c =
     elim c.if-node.branch [ then-node w ↦ omega (arith, w.n-is, e, ap one w.if-node.true) | else-node w ↦ omega (arith, w.n-is, e, ap one w.if-node.false) ] in
     let o = c.loop-n.invariant in
     let t = c.risen-t in
-    goes_on o (stepped c.moved-m.ensures c.look-a.ensures c.turn-c.ensures c.mark_east.ensures counts) (read_back o t.result t.ensures) (sym c.same.ensures ∙ c.if-same.false)
+    goes_on o (stepped_by c.moved-m.ensures c.look-a.ensures c.turn-c.ensures c.mark_east.ensures counts) (read_back o t.result t.ensures) (sym c.same.ensures ∙ c.if-same.false)

@@ -1,19 +1,12 @@
 -- `contours::contour` meets its contract.
-use Prim.Native.Nat.{ℕ, ◌+◌}
+use Prim.Native.Nat.{◌+◌}
 use mathlib.Core.Path.{◌≡◌, sym, ap, ◌∙◌}
-use mathlib.Core.List.{List}
 use native.Mathlib.Omega.{arith}
 use Rattle.rules.specs.Picture.{one}
-use Rattle.lattice.specs.declared.Around.{Around}
-use Rattle.lattice.specs.declared.Size.{Size}
-use Rattle.lattice.specs.declared.Walker.{Walker}
-use Rattle.lattice.specs.Around.{around_of, node_in}
-use Rattle.lattice.specs.Size.{pic}
-use Rattle.lattice.specs.Walker.{dart_of, moved_of}
+use Rattle.lattice.specs.Around.{node_in}
 use Rattle.lattice.proofs.Ways.{edge_corner}
-use Rattle.face.specs.Contours.{turn_in, east_marked}
-use Rattle.face.proofs.contours.Rounds.{edge, may_move, less}
-use Rattle.face.proofs.contours.Walking.{Stepped, nothing, few_nodes, same_room, goes_on, is_over_lem}
+use Rattle.face.proofs.contours.Rounds.{turned_by, edge, may_move, less}
+use Rattle.face.proofs.contours.Walking.{stepped_by, nothing, few_nodes, same_room, goes_on, is_over_lem}
 use Rattle.face.proofs.contours.contour.Goals as goal
 use Rattle.face.proofs.contours.contour.Goals.{then-node, else-node}
 
@@ -43,35 +36,20 @@ turn-c-requires c = may_move c.loop-n.invariant.round
 pub shape_of-work-then-same : goal.shape_of-work-then-same
 shape_of-work-then-same c = c.mark_east.auto.work ∙ same_room c.loop-n.invariant
 
--- one turn of the loop
-stepped :
-    {s : Size} {ls : List ℕ} {at region : ℕ} {work : List ℕ} {c m : Walker} {n : ℕ} {work' : List ℕ} {a : Around} {c' : Walker} {n' : ℕ}
-    → m ≡ moved_of c
-    → a ≡ around_of (pic s ls) m.x m.y
-    → c' ≡ turn_in a region c
-    → work' ≡ east_marked at s.width work (dart_of c)
-    → n' ≡ n + one (node_in a)
-    → Stepped s ls at region work c n work' c' n'
-stepped {a = a} moves looks turns marks counts = record {
-  turned = record { around = a; looks = looks ∙ rw moves; turns = turns };
-  marks = marks;
-  counts = counts;
-}
-
 pub returns-then-same : goal.returns-then-same
 returns-then-same c =
     let e = ap one c.node.ensures in
     let counts : c.if-node.n ≡ c.loop-n.n + one (node_in c.look-a.result) =
     elim c.if-node.branch [ then-node w ↦ omega (arith, w.n-is, e, ap one w.if-node.true) | else-node w ↦ omega (arith, w.n-is, e, ap one w.if-node.false) ] in
-    is_over_lem c.loop-n.invariant (stepped c.moved-m.ensures c.look-a.ensures c.turn-c.ensures c.mark_east.ensures counts) (sym c.same.ensures ∙ c.if-same.true)
+    is_over_lem c.loop-n.invariant (stepped_by c.moved-m.ensures c.look-a.ensures c.turn-c.ensures c.mark_east.ensures counts) (sym c.same.ensures ∙ c.if-same.true)
 
 pub loop-n-smaller : goal.loop-n-smaller
 loop-n-smaller c =
-    less c.loop-n.invariant.round (record { around = c.look-a.result; looks = c.look-a.ensures ∙ rw c.moved-m.ensures; turns = c.turn-c.ensures }) (sym c.same.ensures ∙ c.if-same.false)
+    less c.loop-n.invariant.round (turned_by c.moved-m.ensures c.look-a.ensures c.turn-c.ensures) (sym c.same.ensures ∙ c.if-same.false)
 
 pub loop-n-preserved : goal.loop-n-preserved
 loop-n-preserved c =
     let e = ap one c.node.ensures in
     let counts : c.if-node.n ≡ c.loop-n.n + one (node_in c.look-a.result) =
     elim c.if-node.branch [ then-node w ↦ omega (arith, w.n-is, e, ap one w.if-node.true) | else-node w ↦ omega (arith, w.n-is, e, ap one w.if-node.false) ] in
-    goes_on c.loop-n.invariant (stepped c.moved-m.ensures c.look-a.ensures c.turn-c.ensures c.mark_east.ensures counts) (sym c.same.ensures ∙ c.if-same.false)
+    goes_on c.loop-n.invariant (stepped_by c.moved-m.ensures c.look-a.ensures c.turn-c.ensures c.mark_east.ensures counts) (sym c.same.ensures ∙ c.if-same.false)

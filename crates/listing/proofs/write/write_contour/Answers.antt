@@ -2,7 +2,7 @@
 use mathlib.Core.Path.{sym, ◌∙◌}
 use native.Mathlib.Omega.{arith}
 use Rattle.lattice.proofs.Ways.{edge_corner}
-use Rattle.face.proofs.contours.Rounds.{Turned, edge, may_move, way_on_lem, less}
+use Rattle.face.proofs.contours.Rounds.{turned_by, edge, may_move, way_on_lem, less}
 use Rattle.listing.proofs.Steps.{nothing, low, goes_on, is_over_lem}
 use Rattle.listing.proofs.write.write_contour.Goals as goal
 
@@ -28,20 +28,16 @@ turn-c-requires c = may_move c.loop-s.invariant.round
 
 pub same-requires : goal.same-requires
 same-requires c =
-    let turned : Turned c.args.s c.args.labels.now c.args.region.0 c.loop-s.c c.turn-c.result = record { around = c.look-a.result; looks = c.look-a.ensures ∙ rw c.moved-m.ensures; turns = c.turn-c.ensures } in
-    record { fact_1 = way_on_lem c.loop-s.invariant.round turned; fact_2 = c.requires.fact_1.way }
+    record { fact_1 = way_on_lem c.loop-s.invariant.round (turned_by c.moved-m.ensures c.look-a.ensures c.turn-c.ensures); fact_2 = c.requires.fact_1.way }
 
 pub returns-then-same : goal.returns-then-same
 returns-then-same c =
-    let turned : Turned c.args.s c.args.labels.now c.args.region.0 c.loop-s.c c.turn-c.result = record { around = c.look-a.result; looks = c.look-a.ensures ∙ rw c.moved-m.ensures; turns = c.turn-c.ensures } in
-    is_over_lem c.loop-s.invariant turned c.put_step.ensures (sym c.same.ensures ∙ c.if-same.true) c.put.ensures
+    is_over_lem c.loop-s.invariant (turned_by c.moved-m.ensures c.look-a.ensures c.turn-c.ensures) c.put_step.ensures (sym c.same.ensures ∙ c.if-same.true) c.put.ensures
 
 pub loop-s-smaller : goal.loop-s-smaller
 loop-s-smaller c =
-    let turned : Turned c.args.s c.args.labels.now c.args.region.0 c.loop-s.c c.turn-c.result = record { around = c.look-a.result; looks = c.look-a.ensures ∙ rw c.moved-m.ensures; turns = c.turn-c.ensures } in
-    less c.loop-s.invariant.round turned (sym c.same.ensures ∙ c.if-same.false)
+    less c.loop-s.invariant.round (turned_by c.moved-m.ensures c.look-a.ensures c.turn-c.ensures) (sym c.same.ensures ∙ c.if-same.false)
 
 pub loop-s-preserved : goal.loop-s-preserved
 loop-s-preserved c =
-    let turned : Turned c.args.s c.args.labels.now c.args.region.0 c.loop-s.c c.turn-c.result = record { around = c.look-a.result; looks = c.look-a.ensures ∙ rw c.moved-m.ensures; turns = c.turn-c.ensures } in
-    goes_on c.loop-s.invariant turned c.put_step.ensures (sym c.same.ensures ∙ c.if-same.false)
+    goes_on c.loop-s.invariant (turned_by c.moved-m.ensures c.look-a.ensures c.turn-c.ensures) c.put_step.ensures (sym c.same.ensures ∙ c.if-same.false)
