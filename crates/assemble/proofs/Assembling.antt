@@ -46,15 +46,12 @@ use Rattle.assemble.proofs.Trails.{along_same, end_in_lem, strung_same}
 use Rattle.assemble.proofs.Leaders.{island_leaders}
 use Rattle.assemble.proofs.Readings.{contour_starts, contour_island, island_first}
 
-module _ {s : Size} {ls nodes segs points : List ℕ} {n : ℕ} {work : List ℕ} {ss : List (List Dart)} (M : Map s ls) (b : s.paints ≤ OUTSIDE) (g : Standing s ls nodes segs points n work ss) where
+module _ {s : Size} {ls nodes segs points : List ℕ} {n : ℕ} {work : List ℕ} {ss : List (List Dart)} (M : Map s ls) (b : s.paints ≤ OUTSIDE) (g : Standing s ls nodes segs points n work ss) {C : ℕ} (words : C ≡ plane s.width s.height) where
   abbrev P : Picture
   P = pic s ls
 
   abbrev F : Framed P
   F = framed s ls
-
-  abbrev C : ℕ
-  C = plane s.width s.height
 
   abbrev cs : List (List ℕ)
   cs = contours P ss s.paints
@@ -69,7 +66,7 @@ module _ {s : Size} {ls nodes segs points : List ℕ} {n : ℕ} {work : List ℕ
   -- BOUNDS
 
   plane_low : C ≤ 268468225
-  plane_low = product (s.width + 1) (s.height + 1) (omega (arith, M.wide)) (omega (arith, M.high))
+  plane_low = rw words (product (s.width + 1) (s.height + 1) (omega (arith, M.wide)) (omega (arith, M.high)))
 
   pixels_in : s.width * s.height ≤ C
   pixels_in = omega arith
@@ -123,7 +120,7 @@ module _ {s : Size} {ls nodes segs points : List ℕ} {n : ℕ} {work : List ℕ
         })
 
         numbers : (w : List ℕ) → Used work w → (p : ℕ) → p < s.width * s.height → (label_of P p ≡ OUTSIDE → ⊥) → get_or w (5 * C + p) 0 ≡ get_or (firsts P) p 0
-        numbers w k p h o = k.others (5 * C + p) (inr (omega arith)) (inl (omega (arith, pixels_in))) ∙ g.numbers p h o
+        numbers w k p h o = k.others (5 * C + p) (inr (omega arith)) (inl (omega (arith, pixels_in))) ∙ ap (λ C. get_or work (5 * C + p) 0) words ∙ g.numbers p h o
 
         -- the trail and the list of contours still stand
         same₃ : (i : ℕ) → (i < 4 * C) ⊎ (7 * C ≤ i) → get_or work₃ i 0 ≡ get_or work₂ i 0
@@ -184,20 +181,20 @@ module _ {s : Size} {ls nodes segs points : List ℕ} {n : ℕ} {work : List ℕ
               part_same work₄ work₃ (6 * C) (6 * C) m (λ i h. t.changed.others (6 * C + i) (inr (omega (arith, trail_in_lem, g.total))) (inr (omega (arith, pixels_in))))
               ∙ l.listed ∙ leaders_are
 
-          pub unsorted : Unsorted (6 * C) (7 * C) m work₄
+          pub unsorted : Unsorted (6 * C) m work₄
           unsorted = record {
-            two = record { apart = omega (arith, islands_few, pixels_in); room = omega (arith, islands_few, pixels_in, g.planes, used₄.long) };
+            room = omega (arith, islands_few, pixels_in, g.planes, used₄.long);
             once = rw listed₄ (firsts_all P s.paints).second;
           }
 
           -- THE ISLANDS in order
-          module _ {work₅ : List ℕ} (o : InOrder ls (6 * C) (7 * C) m work₄ work₅) where
+          module _ {work₅ : List ℕ} (o : InOrder ls (6 * C) m work₄ work₅) where
             same₅ : (i : ℕ) → (i < 6 * C) ⊎ (6 * C + 2 * C ≤ i) → get_or work₅ i 0 ≡ get_or work₄ i 0
-            same₅ i (inl h) = o.others i (inl h)
-            same₅ i (inr h) = o.others i (inr (inr (omega (arith, islands_few, pixels_in))))
+            same₅ i (inl h) = o.kept.others i (inl h)
+            same₅ i (inr h) = o.kept.others i (inr (omega (arith, islands_few, pixels_in)))
 
             pub used₅ : Used work work₅
-            used₅ = changed_then used₄ (record { long = o.long; others = λ i p q. same₅ i q })
+            used₅ = changed_then used₄ (record { long = o.kept.long; others = λ i p q. same₅ i q })
 
             -- a painted label is read as it is
             painted_label : (p : ℕ) → First P s.paints p → label_of P p ≡ get_or ls p 0

@@ -13,7 +13,7 @@ use Rattle.rules.specs.Records.{contour_words, NONE}
 use Rattle.rules.proofs.Ground.Walking.{walked}
 use Rattle.assemble.specs.declared.Done.{Done}
 use Rattle.assemble.specs.declared.Run.{Run}
-use Rattle.assemble.specs.Trails.{first_of, end_of, after, is_last, link_of, trail_in, Goes, Along, Strung}
+use Rattle.assemble.specs.Trails.{first_of, end_of, after, is_last, link_of, word_of, Named, trail_in, Goes, Along, Strung}
 use Rattle.assemble.specs.Writing.{Going, Ran, Runs, Fits, Wrote, Chain, WritesChain}
 use Rattle.assemble.proofs.Trails.{strung_one, first_low}
 use Rattle.assemble.proofs.Writing.{wrote_none, wrote_one, wrote_then, fits_front, fits_rest}
@@ -114,11 +114,14 @@ module _ (trail : ℕ) (work : List ℕ) (first : ℕ) (done₀ : Done) (refs₀
         its_run : Ran trail work (r ∷ next_one.rest) at r refs run refs'
         its_run = ran next_one.rest next_one.goes
 
+        pub next_named : Named run.next
+        next_named = its_run.named
+
         pub place_low : at + run.count ≤ NONE
         unfolding flat
         place_low = omega (arith, fits_one.references, its_run.count, length-append (r ∷ next_one.rest) [])
 
-        pub going : {cons' : List ℕ} → cons' ≡ sets cons (2 * c) (at ∷ run.count ∷ []) → Sofar refs' cons' run.next (c + 1) (at + run.count)
+        pub going : {cons' : List ℕ} → cons' ≡ sets cons (2 * c) (at ∷ run.count ∷ []) → Sofar refs' cons' (word_of run.next) (c + 1) (at + run.count)
         going w = record {
           chain = o.chain;
           front = o.front ++ ((r ∷ next_one.rest) ∷ []);
@@ -129,6 +132,6 @@ module _ (trail : ℕ) (work : List ℕ) (first : ℕ) (done₀ : Done) (refs₀
         }
 
   pub fewer : {refs cons : List ℕ} {r c at : ℕ} (o : Sofar refs cons r c at) (n : r ≡ NONE → ⊥) {run : Run} {refs' cons' : List ℕ} → Runs trail work at r refs run refs'
-      → cons' ≡ sets cons (2 * c) (at ∷ run.count ∷ []) → ahead run.next < ahead r
+      → cons' ≡ sets cons (2 * c) (at ∷ run.count ∷ []) → ahead (word_of run.next) < ahead r
   unfolding going
   fewer o n ran w = omega (arith, ahead_is o, ahead_is (going o n ran w), ap length (next_one o n).whole)

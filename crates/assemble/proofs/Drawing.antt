@@ -10,7 +10,9 @@ use native.Mathlib.Decide.{ℕ_discrete}
 use lib.Dec.{eqb}
 use lib.ListN.{length, get_or}
 use borrow.Author.Tests.{eq-eqb, ne_eqb}
-use Rattle.rules.specs.Picture.{Picture, picture, Dir, N, E, S, W, code, back_of, Dart, dart, turned, left, crack, node, ahead_x, ahead_y}
+use Rattle.rules.specs.Picture.{Picture, picture, code, back_of, Dart, dart, turned, left, crack, node, ahead_x, ahead_y}
+use Rattle.rules.specs.declared.Dir.{Dir}
+use Rattle.rules.specs.declared.Dir.TheVariants.{N, E, S, W}
 use Rattle.rules.specs.Graph.{nodes, corners, meets}
 use Rattle.rules.specs.Face.{steps, first_step, last_step, out_entry, region, is_open, turn, successor, next}
 use Rattle.rules.specs.Records.{node_at, node_record, point_records, NONE}
@@ -28,24 +30,16 @@ use Rattle.lattice.specs.Size.{Map, Corner, pic}
 use Rattle.lattice.specs.Dirs.{dir}
 use Rattle.lattice.specs.Walker.{dart_of}
 use Rattle.lattice.proofs.Laws.{product}
-use Rattle.lattice.proofs.Ways.{dir_code, code_small}
+use Rattle.lattice.proofs.Ways.{by_dir, code_small}
 use Rattle.lattice.proofs.Frame.{framed}
 use Rattle.assemble.specs.Words.{word_in, region_in, open_in, heading_in, node_in, next_at, step_in, first_in}
 use Rattle.assemble.specs.Drawn.{Drawn, Pointed, Written}
 use Rattle.assemble.proofs.FirstSteps.{first_forward, first_back}
 use Rattle.assemble.proofs.Points.{step_is, first_x, first_y, second_x, second_y, last_points}
 
-pub back_number : (d : Dir) → (code d % 4 + 2 * 1) % 4 ≡ code (back_of d)
-back_number N = refl
-back_number E = refl
-back_number S = refl
-back_number W = refl
-
-pub whole_number : (d : Dir) → (code d % 4 + 2 * 0) % 4 ≡ code d
-whole_number N = refl
-whole_number E = refl
-whole_number S = refl
-whole_number W = refl
+-- a direction's number as `heading` reads it
+pub read_number : (d : Dir) → dir (code d % 4) ≡ d
+read_number d = by_dir (λ d. dir (code d % 4) ≡ d) refl refl refl refl d
 
 pub out_word_lem : (ss : List (List Dart)) (x y : ℕ) (d : Dir) → get_or (node_record ss (x, y)) (2 + code d) 0 ≡ out_entry ss (dart x y d)
 unfolding node_record
@@ -66,9 +60,18 @@ leads : (P : Picture) (a : Dart) → node_at (nodes P) 0 (turned (turned a)).x (
 unfolding turned
 leads P a = refl
 
-pub heads : (a : Dart) → code (back_of a.d) ≡ code (turned a).d
+pub heads : (a : Dart) → back_of a.d ≡ (turned a).d
 unfolding turned
 heads a = refl
+
+module _ (segs : List ℕ) (r : ℕ) (d : Dir) where
+  pub heads_forward : r % 2 ≡ 0 → word_in segs r (7 - r % 2) ≡ code d → heading_in segs r ≡ d
+  unfolding heading_in
+  heads_forward e w = rw (w, eq-eqb (r % 2) 0 e) (read_number d)
+
+  pub heads_back : (r % 2 ≡ 0 → ⊥) → word_in segs r (7 - r % 2) ≡ code d → heading_in segs r ≡ back_of d
+  unfolding heading_in
+  heads_back n w = rw (w, ne_eqb (r % 2) 0 n) (ap back_of (read_number d))
 
 module _ (s : Size) (ls : List ℕ) (m : Map s ls) (ss : List (List Dart)) (D : Describes (pic s ls) ss) (nodeStore segs points : List ℕ) (h : Written (pic s ls) ss nodeStore segs points) where
   abbrev P : Picture
@@ -180,7 +183,7 @@ module _ (s : Size) (ls : List ℕ) (m : Map s ls) (ss : List (List Dart)) (D : 
         let u = w.1 in
         h.node_words_lem (6 * n + k) (omega arith) ∙ node_word_lem ss (nodes P) n k (omega arith) q ∙ ap (λ (c : ℕ × ℕ). get_or (node_record ss c) k 0) (ap (λ n. get_or (nodes P) n (0, 0)) z ∙ w.3)
 
-    module _ (n d g : ℕ) (en : n ≡ node_at (nodes P) 0 X Y) (ed : d ≡ code l.d) (eg : g ≡ region P ss r) where
+    module _ (n : ℕ) (d : Dir) (g : ℕ) (en : n ≡ node_at (nodes P) 0 X Y) (ed : d ≡ l.d) (eg : g ≡ region P ss r) where
       node_x : node_in nodeStore n 0 ≡ X
       unfolding node_record
       node_x = node_at_lem n 0 en (omega arith)
@@ -193,8 +196,8 @@ module _ (s : Size) (ls : List ℕ) (m : Map s ls) (ss : List (List Dart)) (D : 
       unfolding next_at next turn
       next_is =
           let f : Dir = successor P X Y l.d (left P l) in
-          let s : successor P (node_in nodeStore n 0) (node_in nodeStore n 1) (dir d) g ≡ f =
-          rw (node_x, node_y, ed, dir_code, eg) (ap (successor P X Y l.d) (sym (step_left F D l r b (last_in F D r b)))) in
+          let s : successor P (node_in nodeStore n 0) (node_in nodeStore n 1) d g ≡ f =
+          rw (node_x, node_y, ed, eg) (ap (successor P X Y l.d) (sym (step_left F D l r b (last_in F D r b)))) in
           ap (λ (e : Dir). node_in nodeStore n (2 + code e)) s ∙ node_at_lem n (2 + code f) en (omega (arith, code_small f)) ∙ out_word_lem ss X Y f
 
       ends_is : Corner s (node_in nodeStore n 0) (node_in nodeStore n 1)
@@ -256,7 +259,7 @@ module _ (s : Size) (ls : List ℕ) (m : Map s ls) (ss : List (List Dart)) (D : 
       r < 2 * length ss
       → (region_in segs r ≡ region P ss r)
       × (open_in segs r ≡ is_open P ss r)
-      × (is_open P ss r ≡ true → (word_in segs r (3 - r % 2) ≡ node_at (nodes P) 0 (ahead_x (last_step ss r)) (ahead_y (last_step ss r))) × (heading_in segs r ≡ code (last_step ss r).d))
+      × (is_open P ss r ≡ true → (word_in segs r (3 - r % 2) ≡ node_at (nodes P) 0 (ahead_x (last_step ss r)) (ahead_y (last_step ss r))) × (heading_in segs r ≡ (last_step ss r).d))
 
   forward : (i : ℕ) → Right (2 * i)
   forward i b =
@@ -265,7 +268,7 @@ module _ (s : Size) (ls : List ℕ) (m : Map s ls) (ss : List (List Dart)) (D : 
       let k : i < length ss = omega arith in (
         rw (j, o) (word4 i k),
         rw j (opens_forward i k),
-        λ e. (rw (j, o) (word3 i k), rw (o, j) (ap (λ n. (n % 4 + 2 * 0) % 4) (word7 i k e) ∙ whole_number (last_step ss (2 * i)).d)),
+        λ e. (rw (j, o) (word3 i k), heads_forward segs (2 * i) (last_step ss (2 * i)).d o (rw (o, j) (word7 i k e))),
       )
 
   backward : (i : ℕ) → Right (suc (2 * i))
@@ -280,7 +283,7 @@ module _ (s : Size) (ls : List ℕ) (m : Map s ls) (ss : List (List Dart)) (D : 
         rw j (opens_forward i k ∙ sym (alike i k)),
         λ e. (
           rw (j, o) (word2 i k ∙ ap (λ (c : Dart). node_at (nodes P) 0 c.x c.y) (sym t) ∙ leads P a ∙ ap (λ (c : Dart). node_at (nodes P) 0 (ahead_x c) (ahead_y c)) (sym v)),
-          rw (o, j) (ap (λ n. (n % 4 + 2 * 1) % 4) (word6 i k) ∙ back_number a.d ∙ heads a ∙ ap (λ (c : Dart). code c.d) (sym v)),
+          heads_back segs (suc (2 * i)) a.d (λ e. omega (arith, o)) (rw (o, j) (word6 i k)) ∙ heads a ∙ ap (λ (c : Dart). c.d) (sym v),
         ),
       )
 

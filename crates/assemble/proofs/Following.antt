@@ -6,13 +6,12 @@ use native.Mathlib.Omega.{arith}
 use lib.ListN.{length, set, get_or, length-append, length-set}
 use lib.Seq.{get_or-append_seam}
 use borrow.Author.Tests.{eq-eqb, ne_eqb}
-use Rattle.rules.specs.Picture.{Picture, Dir, code}
+use Rattle.rules.specs.Picture.{Picture, code}
+use Rattle.rules.specs.declared.Dir.{Dir}
 use Rattle.lattice.specs.declared.Size.{Size}
 use Rattle.lattice.specs.declared.Around.{Around}
 use Rattle.lattice.specs.Around.{around_of}
 use Rattle.lattice.specs.Size.{pic}
-use Rattle.lattice.specs.Dirs.{dir}
-use Rattle.lattice.proofs.Ways.{code_small}
 use Rattle.face.specs.Contours.{successor_in}
 use Rattle.rules.proofs.Ground.Walking.{walked}
 use Rattle.face.proofs.contours.Turning.{successor_in_lem}
@@ -23,14 +22,11 @@ use Rattle.assemble.proofs.Walking.{all, Way, begin as first_way, in_way, over_h
 
 -- WHAT THE SMALL FUNCTIONS SAY
 
-pub way_low : (e : ℕ) (d : Dir) → e ≡ code d → e < 4
-way_low e d q = rw q (code_small d)
-
-pub next_said : (P : Picture) (nodes : List ℕ) (n x y d e region v : ℕ) (a : Around) → x ≡ node_in nodes n 0 → y ≡ node_in nodes n 1 → a ≡ around_of P x y
-    → e ≡ code (successor_in a region (dir d)) → v ≡ node_in nodes n (2 + e) → v ≡ next_at P nodes n d region
+pub next_said : (P : Picture) (nodes : List ℕ) (n x y : ℕ) (d e : Dir) (region v : ℕ) (a : Around) → x ≡ node_in nodes n 0 → y ≡ node_in nodes n 1 → a ≡ around_of P x y
+    → e ≡ successor_in a region d → v ≡ node_in nodes n (2 + code e) → v ≡ next_at P nodes n d region
 unfolding next_at
 next_said P nodes n x y d e region v a p q r f g =
-    g ∙ ap (λ e. node_in nodes n (2 + e)) (f ∙ ap (λ (a : Around). code (successor_in a region (dir d))) r ∙ ap code (successor_in_lem P x y region (dir d)) ∙ rw (p, q))
+    g ∙ rw (f, r, successor_in_lem P x y region d, p, q)
 
 -- LISTS that grow at their end
 

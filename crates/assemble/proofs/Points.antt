@@ -7,13 +7,14 @@ use native.Mathlib.Omega.{arith}
 use lib.ListN.{length, get_or}
 use borrow.Author.Tests.{lt-ltb, le-ltb}
 use Rattle.rules.specs.Lists.{last_of}
-use Rattle.rules.specs.Picture.{Picture, Dir, N, E, S, W, Dart, dart, to_x, to_y, ahead_x, ahead_y, crack}
+use Rattle.rules.specs.Picture.{Picture, Dart, dart, to_x, to_y, ahead_x, ahead_y, crack}
+use Rattle.rules.specs.declared.Dir.{Dir}
+use Rattle.rules.specs.declared.Dir.TheVariants.{N, E, S, W}
 use Rattle.rules.specs.Describes.{Through}
 use Rattle.rules.specs.Records.{point_records}
 use Rattle.rules.proofs.Lattice.Frame.{Framed}
 use Rattle.rules.proofs.Lattice.Darts.{dart_path}
 use Rattle.lattice.specs.Walker.{dart_of}
-use Rattle.lattice.proofs.Ways.{dir_code}
 use Rattle.lattice.proofs.Frame.{north, west}
 use Rattle.assemble.specs.Words.{point_x, point_y, dir_to, step_in}
 
@@ -29,8 +30,7 @@ direction' F x y W c = let h = west F x y c in rw (le-ltb y y (omega arith), le-
 pub step_is : {P : Picture} (F : Framed P) (points : List ℕ) (i j : ℕ) (a : Dart) → crack P a ≡ true → point_x points i ≡ a.x → point_y points i ≡ a.y
     → point_x points j ≡ ahead_x a → point_y points j ≡ ahead_y a → dart_of (step_in points i j) ≡ a
 step_is F points i j a c ex ey tx ty =
-    dart_path (dart_of (step_in points i j)) a ex ey
-    (dir_code (dir_to (point_x points i) (point_y points i) (point_x points j) (point_y points j)) ∙ rw (ex, ey, tx, ty) (direction' F a.x a.y a.d c))
+    dart_path (dart_of (step_in points i j)) a ex ey (rw (ex, ey, tx, ty) (direction' F a.x a.y a.d c))
 
 -- THE POINTS of one segment
 

@@ -8,9 +8,10 @@ use lib.ListN.{length, set, length-append}
 use lib.Seq.{sets, length-sets}
 use Rattle.store.proofs.Writes.{sets_append}
 use Rattle.rules.proofs.Ground.Walking.{walked}
-use Rattle.rules.specs.Records.{NONE}
-use Rattle.assemble.specs.Trails.{LINK, end_of, after, is_last, link_of, Goes}
+use Rattle.assemble.specs.Trails.{LINK, end_of, after, is_last, link_of, word_of, Named, Goes}
 use Rattle.assemble.specs.Writing.{Going, Runs}
+use Rattle.assemble.specs.declared.Reference.{Reference}
+use Rattle.std.specs.Prelude.{Option, Some, None}
 use Rattle.assemble.proofs.Walking.{all, Way, begin as first_way, over_here, on, ahead, ahead_is}
 use Rattle.assemble.proofs.Following.{end_more}
 use Rattle.assemble.proofs.Trails.{leads_back, leads_away, leads_on, link_back, link_on}
@@ -60,17 +61,18 @@ module _ (trail : ℕ) (work : List ℕ) (at r : ℕ) (refs₀ : List ℕ) where
           let g = on f stop r o.way v word (leads_on trail work r q (λ z. e (word ∙ z)) (omega (arith, word))) in
           (record { done = o.done ++ (q ∷ []); more = g.0; way = g.1; count = omega (arith, o.count, length-append o.done (q ∷ [])); written = written_more; low = omega arith }, omega (arith, ahead_is f stop r o.way, ahead_is f stop r g.1, g.2))
 
-      ran : is_last trail work r q ≡ true → (next : ℕ) → next ≡ link_of r v → Runs trail work at r refs₀ (record { count = n + 1; next = next }) refs'
-      ran e next z l g =
+      ran : is_last trail work r q ≡ true → (next : Option Reference) → Named next → word_of next ≡ link_of r v → Runs trail work at r refs₀ (record { count = n + 1; next = next }) refs'
+      ran e next k z l g =
           let whole : r ∷ l ≡ o.done ++ (q ∷ []) = sym (the_walk l g) ∙ over_here (after trail work) (is_last trail work r) r o.way e in
           record {
             count = omega (arith, o.count, ap length whole, length-append o.done (q ∷ []));
+            named = k;
             next = z ∙ ap (link_of r) (word ∙ ap (after trail work) (sym (ap end_of whole ∙ end_more o.done q)));
             written = written_more ∙ ap (sets refs₀ at) (sym whole);
           }
 
-      pub back : v ≡ r → Runs trail work at r refs₀ (record { count = n + 1; next = NONE }) refs'
-      back e = ran (leads_back trail work r q (sym word ∙ e)) NONE (sym (link_back r v e))
+      pub back : v ≡ r → Runs trail work at r refs₀ (record { count = n + 1; next = None }) refs'
+      back e = ran (leads_back trail work r q (sym word ∙ e)) None tt (sym (link_back r v e))
 
-      pub away : (v ≡ r → ⊥) → LINK ≤ v → Runs trail work at r refs₀ (record { count = n + 1; next = v - LINK }) refs'
-      away e h = ran (leads_away trail work r q (omega (arith, word))) (v - LINK) (sym (link_on r v e))
+      pub away : (v ≡ r → ⊥) → LINK ≤ v → v < 4294967296 → Runs trail work at r refs₀ (record { count = n + 1; next = Some (record { 0 = v - LINK }) }) refs'
+      away e h b = ran (leads_away trail work r q (omega (arith, word))) (Some (record { 0 = v - LINK })) (λ e. omega arith) (sym (link_on r v e))

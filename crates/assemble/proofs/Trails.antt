@@ -16,7 +16,9 @@ use Rattle.rules.proofs.Ground.Lists.{in_last, last_at}
 use Rattle.rules.proofs.Ground.Orbits.{Linked, Cycle, until, Walk}
 use Rattle.rules.proofs.Ground.Walking.{walked}
 use Rattle.rules.specs.Records.{NONE}
-use Rattle.assemble.specs.Trails.{LINK, first_of, end_of, after, is_last, link_of, Along, Strung}
+use Rattle.std.specs.Prelude.{Option, Some, None}
+use Rattle.assemble.specs.declared.Reference.{Reference}
+use Rattle.assemble.specs.Trails.{word_of, Named, Linkable, LINK, first_of, end_of, after, is_last, link_of, Along, Strung}
 
 -- THE LAST of a contour
 
@@ -139,3 +141,8 @@ link_back r v e = ap (λ (b : Bool). cond b NONE (v - LINK)) (eq-eqb v r e)
 pub link_on : (r v : ℕ) → (v ≡ r → ⊥) → link_of r v ≡ v - LINK
 unfolding link_of
 link_on r v n = ap (λ (b : Bool). cond b NONE (v - LINK)) (ne_eqb v r n)
+
+-- what a word names, where the word is low
+pub linkable : (h : Option Reference) → Named h → ((word_of h ≡ NONE → ⊥) → word_of h < LINK) → Linkable h
+linkable None n f = tt
+linkable (Some r) n f = f n

@@ -1,9 +1,9 @@
 -- Contours and faces written one after the other.
-use Prim.Native.Nat.{ℕ, suc, ◌+◌, ◌*◌}
+use Prim.Native.Nat.{ℕ, ◌+◌, ◌*◌}
 use mathlib.Core.Path.{◌≡◌, refl, sym, ap, ◌∙◌}
 use mathlib.Core.List.{List, [], ◌∷◌, ◌++◌, append-nil}
 use native.Mathlib.Omega.{arith}
-use lib.ListN.{length, set, length-append}
+use lib.ListN.{length, length-append}
 use lib.Seq.{sets}
 use Rattle.rules.specs.Lists.{flat}
 use Rattle.rules.specs.Records.{contour_words}
@@ -13,9 +13,6 @@ use Rattle.assemble.specs.declared.Done.{Done}
 use Rattle.assemble.specs.Writing.{Fits, Wrote}
 
 -- ONE CONTOUR
-
-pub two_words : (l m n : List ℕ) (i a b : ℕ) → m ≡ set l i a → n ≡ set m (i + 1) b → n ≡ sets l i (a ∷ b ∷ [])
-two_words l m n i a b e f = let p : i + 1 ≡ suc i = omega arith in f ∙ rw (e, p)
 
 pub wrote_one : (c : List ℕ) (done : Done) (refs cons refs' cons' : List ℕ) (n : ℕ) → n ≡ length c → refs' ≡ sets refs done.references c
     → cons' ≡ sets cons (2 * done.contours) (done.references ∷ n ∷ [])

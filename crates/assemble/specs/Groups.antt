@@ -32,15 +32,6 @@ pub record Leaders (paints bound heads ids list : ℕ) (ls work₀ : List ℕ) (
   pub listed : part work list m ≡ keep (leads paints bound ids ls work₀) (upto p 0)
   pub empty : (q : ℕ) → In q (keep (leads paints bound ids ls work₀) (upto p 0)) → get_or work (heads + q) 0 ≡ NONE
 
-pub record LeaderDue (paints bound heads ids list : ℕ) (ls : List ℕ) (p m : ℕ) (work : List ℕ) : Type 0 where
-  pub work₀ : List ℕ
-  pub leaders : Leaders paints bound heads ids list ls work₀ p m work
-  pub below : p < length ls
-
-abbrev pub LeaderMoves : ℕ → ℕ → ℕ → ℕ → ℕ → List ℕ → ℕ → ℕ → List ℕ → ℕ → ℕ → List ℕ → Type 0
-LeaderMoves paints bound heads ids list ls p m work p' m' work' =
-    (work₀ : List ℕ) → p < length ls → Leaders paints bound heads ids list ls work₀ p m work → Leaders paints bound heads ids list ls work₀ p' m' work'
-
 -- THE CONTOURS of each
 
 -- the word at e leads on to the contour with the first reference h, if there is one

@@ -39,18 +39,6 @@ pub record Stage (s : Size) (ls nodes segs : List ℕ) (ss : List (List Dart)) (
   pub seen : (q : ℕ) → q < 2 * length ss → after trail work q ≡ trail_of (pic s ls) ss cs q
   pub listed : Listed lasts k (keep (is_painted (pic s ls) ss s.paints) cs) work
 
--- there is such a stage, and r is a reference
-pub record Due (s : Size) (ls nodes segs : List ℕ) (trail lasts r k : ℕ) (work : List ℕ) : Type 0 where
-  pub ss : List (List Dart)
-  pub work₀ : List ℕ
-  pub stage : Stage s ls nodes segs ss trail lasts work₀ r k work
-  pub below : r < 2 * length ss
-
--- from any such stage on
-abbrev pub Moves : Size → List ℕ → List ℕ → List ℕ → ℕ → ℕ → ℕ → ℕ → List ℕ → ℕ → ℕ → List ℕ → Type 0
-Moves s ls nodes segs trail lasts r k work r' k' work' =
-    (ss : List (List Dart)) (work₀ : List ℕ) → r < 2 * length ss → Stage s ls nodes segs ss trail lasts work₀ r k work → Stage s ls nodes segs ss trail lasts work₀ r' k' work'
-
 -- THE LOOP over all references, n of them
 
 -- there is a stage with r references done
@@ -83,17 +71,6 @@ pub record RingStage (s : Size) (segs : List ℕ) (P : Picture) (ss : List (List
   pub rings : (q : ℕ) → q < r → is_open P ss q ≡ false → after trail work q ≡ q
   pub opens : (q : ℕ) → q < 2 * length ss → is_open P ss q ≡ true → after trail work q ≡ after trail work₀ q
   pub listed : Listed lasts k (ringed P ss s.paints r) work
-
-pub record RingDue (s : Size) (segs : List ℕ) (trail lasts r k : ℕ) (work : List ℕ) : Type 0 where
-  pub P : Picture
-  pub ss : List (List Dart)
-  pub work₀ : List ℕ
-  pub stage : RingStage s segs P ss trail lasts work₀ r k work
-  pub below : r < 2 * length ss
-
-abbrev pub RingMoves : Size → List ℕ → ℕ → ℕ → ℕ → ℕ → List ℕ → ℕ → ℕ → List ℕ → Type 0
-RingMoves s segs trail lasts r k work r' k' work' =
-    (P : Picture) (ss : List (List Dart)) (work₀ : List ℕ) → r < 2 * length ss → RingStage s segs P ss trail lasts work₀ r k work → RingStage s segs P ss trail lasts work₀ r' k' work'
 
 pub record RingBegun (s : Size) (segs : List ℕ) (trail lasts n r k : ℕ) (work : List ℕ) : Type 0 where
   pub P : Picture

@@ -1,7 +1,8 @@
 -- Contours in a part of the work words, the trail: the word of each reference is the next one of its contour.
-use Rattle.std.specs.Prelude.{ℕ, pred, ◌+◌, ◌-◌, ◌<◌, ◌≡◌, Bool, cond, ◌||◌, List, [], ◌∷◌, eqb, leb, length, get_or}
+use Rattle.std.specs.Prelude.{ℕ, pred, ◌+◌, ◌-◌, ◌<◌, ◌≡◌, Bool, cond, ◌||◌, List, [], ◌∷◌, eqb, leb, length, get_or, Option, Some, None}
 use Rattle.rules.proofs.Ground.Orbits.{until, Walk}
 use Rattle.rules.specs.Records.{NONE}
+use Rattle.assemble.specs.declared.Reference.{Reference}
 
 -- a word from here on leads to another contour of the same island
 abbrev pub LINK : ℕ
@@ -20,6 +21,21 @@ after trail work q = get_or work (trail + q) 0
 -- q is the last one of the contour that starts with r: its word leads back to r, or on to another contour
 abbrev pub is_last : ℕ → List ℕ → ℕ → ℕ → Bool
 is_last trail work r q = eqb (after trail work q) r || leb LINK (after trail work q)
+
+-- a reference that a word names, and NONE for none
+abbrev pub word_of : Option Reference → ℕ
+word_of None = NONE
+word_of (Some r) = r.0
+
+-- its word is no NONE
+abbrev pub Named : Option Reference → Type 0
+Named None = Unit
+Named (Some r) = r.0 ≡ NONE → ⊥
+
+-- with a link its word is still a word
+abbrev pub Linkable : Option Reference → Type 0
+Linkable None = Unit
+Linkable (Some r) = r.0 < LINK
 
 -- from r on, up to the last one
 unfoldable pub trail_in : ℕ → List ℕ → ℕ → List ℕ

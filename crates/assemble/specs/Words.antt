@@ -1,6 +1,8 @@
 -- What the words of a graph's records say of a reference.
 use Rattle.std.specs.Prelude.{ℕ, ◌+◌, ◌*◌, ◌-◌, ◌/◌, ◌%◌, ◌<◌, ◌≤◌, ◌≡◌, Bool, cond, not, List, [], eqb, ltb, get_or}
-use Rattle.rules.specs.Picture.{Picture, Dir, N, E, S, W, code}
+use Rattle.rules.specs.Picture.{Picture, code, back_of}
+use Rattle.rules.specs.declared.Dir.{Dir}
+use Rattle.rules.specs.declared.Dir.TheVariants.{N, E, S, W}
 use Rattle.rules.specs.Face.{successor, beside}
 use Rattle.rules.specs.Records.{NONE}
 use Rattle.lattice.specs.declared.Size.{Size}
@@ -24,15 +26,15 @@ abbrev pub end_in : List ℕ → ℕ → ℕ
 end_in segs r = word_in segs r (3 - r % 2)
 
 -- the direction in which it arrives: a reversed one goes against the first step
-abbrev pub heading_in : List ℕ → ℕ → ℕ
-heading_in segs r = (word_in segs r (7 - r % 2) % 4 + 2 * (r % 2)) % 4
+unfoldable pub heading_in : List ℕ → ℕ → Dir
+heading_in segs r = let d = dir (word_in segs r (7 - r % 2) % 4) in cond (eqb (r % 2) 0) d (back_of d)
 
 -- the word k of the record of the node n
 abbrev pub node_in : List ℕ → ℕ → ℕ → ℕ
 node_in nodes n k = get_or nodes (6 * n + k) 0
 
-unfoldable pub next_at : Picture → List ℕ → ℕ → ℕ → ℕ → ℕ
-next_at P nodes n d region = node_in nodes n (2 + code (successor P (node_in nodes n 0) (node_in nodes n 1) (dir d) region))
+unfoldable pub next_at : Picture → List ℕ → ℕ → Dir → ℕ → ℕ
+next_at P nodes n d region = node_in nodes n (2 + code (successor P (node_in nodes n 0) (node_in nodes n 1) d region))
 
 abbrev pub next_in : Picture → List ℕ → List ℕ → ℕ → ℕ
 next_in P nodes segs r = next_at P nodes (end_in segs r) (heading_in segs r) (region_in segs r)
@@ -55,7 +57,7 @@ point_y points i = get_or points (2 * i + 1) 0
 
 -- the step from the point i to the point j
 abbrev pub step_in : List ℕ → ℕ → ℕ → Walker
-step_in points i j = record { x = point_x points i; y = point_y points i; d = code (dir_to (point_x points i) (point_y points i) (point_x points j) (point_y points j)) }
+step_in points i j = record { x = point_x points i; y = point_y points i; d = dir_to (point_x points i) (point_y points i) (point_x points j) (point_y points j) }
 
 unfoldable pub first_in : List ℕ → List ℕ → ℕ → Walker
 first_in segs points r =
@@ -65,13 +67,12 @@ first_in segs points r =
 
 -- the pixel on its left is on the map
 pub record Flanked (s : Size) (w : Walker) : Type 0 where
-  pub way : w.d < 4
   pub wide : s.width ≤ 16384
   pub across : w.x ≤ 16384
   pub down : w.y ≤ 16384
-  pub north : w.d ≡ 0 → (0 < w.x) × (0 < w.y)
-  pub east : w.d ≡ 1 → 0 < w.y
-  pub west : w.d ≡ 3 → 0 < w.x
+  pub north : w.d ≡ N → (0 < w.x) × (0 < w.y)
+  pub east : w.d ≡ E → 0 < w.y
+  pub west : w.d ≡ W → 0 < w.x
 
 -- that pixel: of the picture only the width counts
 abbrev pub pixel_in : Size → Walker → ℕ

@@ -8,7 +8,7 @@ use Rattle.rules.specs.Records.{contours_of, contour_words, face_words, NONE}
 use Rattle.store.specs.Words.{part}
 use Rattle.assemble.specs.declared.Done.{Done}
 use Rattle.assemble.specs.declared.Run.{Run}
-use Rattle.assemble.specs.Trails.{end_of, after, link_of, Goes, Strung}
+use Rattle.assemble.specs.Trails.{end_of, after, link_of, word_of, Named, Goes, Strung}
 
 -- ONE CONTOUR
 
@@ -20,7 +20,8 @@ pub record Going (trail : ℕ) (work : List ℕ) (r : ℕ) : Type 0 where
 -- the references c of a contour from `at` on, and where its last word leads
 pub record Ran (trail : ℕ) (work c : List ℕ) (at r : ℕ) (refs : List ℕ) (run : Run) (refs' : List ℕ) : Type 0 where
   pub count : run.count ≡ length c
-  pub next : run.next ≡ link_of r (after trail work (end_of c))
+  pub next : word_of run.next ≡ link_of r (after trail work (end_of c))
+  pub named : Named run.next
   pub written : refs' ≡ sets refs at c
 
 abbrev pub Runs : ℕ → List ℕ → ℕ → ℕ → List ℕ → Run → List ℕ → Type 0

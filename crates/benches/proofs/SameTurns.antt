@@ -4,7 +4,8 @@ use mathlib.Core.Bool.{Bool, true, cond}
 use mathlib.Core.Path.{◌≡◌, sym, ap, ap₂, ◌∙◌}
 use lib.Dec.{eqb}
 use borrow.Author.Tests.{eqb-true, eq-eqb}
-use Rattle.rules.specs.Picture.{Picture, Dir, right_of, left_of, Dart, dart, to_x, to_y, left_at, left, right, crack}
+use Rattle.rules.specs.Picture.{Picture, right_of, left_of, Dart, dart, to_x, to_y, left_at, left, right, crack}
+use Rattle.rules.specs.declared.Dir.{Dir}
 use Rattle.rules.specs.Face.{keeps, successor, turn}
 use Rattle.rules.proofs.Ground.Booleans.{both, and_left, and_right, same_tests}
 use Rattle.rules.proofs.Lattice.Darts.{crack_differs, differs_crack}

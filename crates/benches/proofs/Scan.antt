@@ -18,7 +18,9 @@ use lib.Dec.{eqb}
 use lib.ListN.{get_or}
 use borrow.Author.Tests.{eqb-true, eq-eqb}
 use Rattle.rules.specs.Lists.{keep, flat, Distinct}
-use Rattle.rules.specs.Picture.{Picture, OUTSIDE, Dir, N, E, S, W, Dart, dart, same_dart, to_x, to_y, left, crack}
+use Rattle.rules.specs.Picture.{Picture, OUTSIDE, Dart, dart, same_dart, to_x, to_y, left, crack}
+use Rattle.rules.specs.declared.Dir.{Dir}
+use Rattle.rules.specs.declared.Dir.TheVariants.{N, E, S, W}
 use Rattle.rules.specs.Graph.{fuel}
 use Rattle.rules.specs.Face.{no_dart, label_of, turn, island, faces}
 use Rattle.rules.specs.Describes.{Describes}

@@ -7,7 +7,8 @@ use lib.Dec.{eqb}
 use lib.ListN.{get_or}
 use borrow.Author.Tests.{eqb-true, eq-eqb}
 use Rattle.rules.specs.Lists.{upto}
-use Rattle.rules.specs.Picture.{Picture, OUTSIDE, Dir, Dart, ahead_x, ahead_y, left}
+use Rattle.rules.specs.Picture.{Picture, OUTSIDE, Dart, ahead_x, ahead_y, left}
+use Rattle.rules.specs.declared.Dir.{Dir}
 use Rattle.rules.specs.Face.{pixels, label_of, firsts, beside, beside_at, turn}
 use Rattle.rules.proofs.Ground.Booleans.{same_tests}
 use Rattle.rules.proofs.Ground.Lists.{keep_same, upto_in}

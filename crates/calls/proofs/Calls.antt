@@ -8,6 +8,9 @@ use lib.Seq.{sets}
 use Rattle.rules.specs.Graph.{nodes, segments}
 use Rattle.rules.specs.Face.{faces}
 use Rattle.rules.specs.Records.{contours_of}
+use Rattle.std.specs.Prelude.{Result, Ok, Err}
+use Rattle.rules.specs.declared.Refusal.{Refusal}
+use Rattle.rules.specs.Refusals.{number_of, number_in}
 use Rattle.rules.specs.Calls.{Map, picture_of, CutList, cuts, graph_list, cut_list, counted, refused, Check, first_hit, map_checks, short, graph_checks, face_checks, store_after, call, graph, size, whole, work_words}
 use Rattle.rules.proofs.Tracing.Partition.{describes}
 use Rattle.rules.proofs.Tracing.Counts.{has_step}
@@ -18,18 +21,19 @@ use Rattle.lattice.specs.declared.Size.{Size}
 use Rattle.lattice.specs.Size.{Map as LabelledMap}
 use Rattle.lattice.specs.Planes.{plane}
 use Rattle.lattice.proofs.Frame.{framed}
-use Rattle.graph.specs.declared.Counts.{Counts}
-use Rattle.calls.specs.declared.Answer.{Answer}
-use Rattle.calls.specs.Outcome.{map_of, answer_of, graph_answer, with_number, outcome}
+use Rattle.graph.specs.declared.Counts.{Counts as GraphCounts}
+use Rattle.calls.specs.declared.Counts.{Counts}
+use Rattle.calls.specs.Outcome.{map_of, graph_counts, answer_with, unlooked, answer_of, answered_by, outcome}
 use Rattle.calls.specs.Steps.{CountsGraph, CountsFaces, GraphRoomy, GraphWritten, FacesRoomy, FacesWritten}
 use Rattle.calls.proofs.Checks.{room, all_miss, both_miss, graph_positive}
+use Rattle.calls.proofs.Refusals.{positive}
 use Rattle.calls.proofs.Outcomes.{Late, first, Passed, passed, refused_answer, refused_work, refused_store, number_late, accepted_answer, accepted_work, work_words_lem, work_cleared}
 
 -- THE MAP passed the early checks
 
-module _ (s : Size) (ls work : List ℕ) (n : ℕ) (e : n ≡ first (map_of s ls) work) (z : n ≡ 0) where
+module _ (s : Size) (ls work : List ℕ) (z : first (map_of s ls) work ≡ 0) where
   abbrev ok : Passed (map_of s ls) work
-  ok = passed (map_of s ls) work (sym e ∙ z)
+  ok = passed (map_of s ls) work z
 
   pub map_passed : LabelledMap s ls
   map_passed = record { wide = ok.wide; high = ok.high; count = ok.labels }
@@ -87,9 +91,9 @@ module _ (s : Size) (ls : List ℕ) where
     all_roomy = (graph_roomy ns ss ps n (λ z. rw (same_checks ns ss ps) at (miss z).0), faces_roomy rs cs fs n (λ z. (miss z).1))
 
 -- the counts with another number
-pub renumbered : (n : ℕ) (a : Answer) (l : CutList) → answer_of a ≡ counted 0 l → answer_of (with_number n a) ≡ counted n l
+pub renumbered : (n : ℕ) (c : Counts) (l : CutList) → answer_with 0 c ≡ counted 0 l → answer_with n c ≡ counted n l
 unfolding counted
-renumbered n a l k = λ i. record {
+renumbered n c l k = λ i. record {
   number = n;
   nodes = (k i).nodes;
   segments = (k i).segments;
@@ -100,6 +104,11 @@ renumbered n a l k = λ i. record {
   steps = (k i).steps;
 }
 
+-- what is answered after the counting has the check's number
+pub answered_number : (room : Result (Unit {0}) Refusal) (c : Counts) → answer_of (answered_by room c) ≡ answer_with (number_in room) c
+answered_number (Ok u) c = refl
+answered_number (Err why) c = refl
+
 -- the work store at the end, after steps that keep what lies behind the planes
 module _ (s : Size) (ls work : List ℕ) where
   abbrev m : Map
@@ -108,96 +117,98 @@ module _ (s : Size) (ls work : List ℕ) where
   pub work_left : (work₁ work₂ : List ℕ) → first m work ≡ 0 → Kept 0 (8 * plane s.width s.height) work work₁
       → work₂ ≡ sets work₁ 0 (replicate (8 * plane s.width s.height) 0) → work₂ ≡ replicate (work_words m) 0 ++ drop (work_words m) work
   work_left work₁ work₂ z k f =
-      work_cleared (8 * plane s.width s.height) work work₁ work₂ (planes_passed s ls work (first m work) refl z) k f
+      work_cleared (8 * plane s.width s.height) work work₁ work₂ (planes_passed s ls work z) k f
       ∙ ap (λ (n : ℕ). replicate n 0 ++ drop n work) (sym (work_words_lem s ls))
 
   -- ANY CALL
 
   module _ (l : CutList) (more : List Check) (parts : List (List ℕ × List ℕ)) where
-    pub call_refused : (a : Answer) → (first m work ≡ 0 → ⊥) → answer_of a ≡ refused (first m work) → outcome a (work ∷ map (λ p. p.1) parts) ≡ call m l work more parts
+    pub call_refused : (why : Refusal) → number_of why ≡ first m work → outcome (Err (unlooked why)) (work ∷ map (λ p. p.1) parts) ≡ call m l work more parts
     unfolding call
-    call_refused a n e = λ i. record { answer = (e ∙ sym (refused_answer m work more n l)) i; stores = sym (refused_work m work more n) i ∷ kept parts i }
+    call_refused why e = λ i. record { answer = (ap refused e ∙ sym (refused_answer m work more n l)) i; stores = sym (refused_work m work more n) i ∷ kept parts i }
       where
+        n : first m work ≡ 0 → ⊥
+        n z = let h = positive why in omega arith
+
         kept : (ps : List (List ℕ × List ℕ)) → map (λ p. p.1) ps ≡ map (λ p. store_after (first_hit (map_checks m work ++ more)) p.0 p.1) ps
         kept [] = refl
         kept (p ∷ ps) = λ i. sym (refused_store m work more n p.0 p.1) i ∷ kept ps i
 
-    pub call_answered : (n : ℕ) (a : Answer) (work₁ work₂ : List ℕ) (stores : List (List ℕ))
+    pub call_answered : (room : Result (Unit {0}) Refusal) (c : Counts) (work₁ work₂ : List ℕ) (stores : List (List ℕ))
         → first m work ≡ 0
         → Late more
-        → n ≡ first_hit more
-        → answer_of a ≡ counted 0 l
+        → number_in room ≡ first_hit more
+        → answer_with 0 c ≡ counted 0 l
         → Kept 0 (8 * plane s.width s.height) work work₁
         → work₂ ≡ sets work₁ 0 (replicate (8 * plane s.width s.height) 0)
-        → stores ≡ map (λ p. store_after n p.0 p.1) parts
-        → outcome (with_number n a) (work₂ ∷ stores) ≡ call m l work more parts
+        → stores ≡ map (λ p. store_after (number_in room) p.0 p.1) parts
+        → outcome (answered_by room c) (work₂ ∷ stores) ≡ call m l work more parts
     unfolding call
-    call_answered n a work₁ work₂ stores z late e k kept cleared written =
-        let answered = renumbered n a l k ∙ ap (λ (n : ℕ). counted n l) e ∙ sym (accepted_answer m work more late z l) in
+    call_answered room c work₁ work₂ stores z late e k kept cleared written =
+        let answered = answered_number room c ∙ renumbered (number_in room) c l k ∙ ap (λ (n : ℕ). counted n l) e ∙ sym (accepted_answer m work more late z l) in
         let worked = work_left work₁ work₂ z kept cleared ∙ sym (accepted_work m work more late z) in
-        let same : n ≡ first_hit (map_checks m work ++ more) = e ∙ sym (number_late m work more late z) in
+        let same : number_in room ≡ first_hit (map_checks m work ++ more) = e ∙ sym (number_late m work more late z) in
         let stored = written ∙ ap (λ (n : ℕ). map (λ p. store_after n p.0 p.1) parts) same in
         λ i. record { answer = answered i; stores = worked i ∷ stored i }
 
   -- SIZE
 
-  pub size_refused : (a : Answer) → (first m work ≡ 0 → ⊥) → answer_of a ≡ refused (first m work) → outcome a (work ∷ []) ≡ size m work
+  pub size_refused : (why : Refusal) → number_of why ≡ first m work → outcome (Err (unlooked why)) (work ∷ []) ≡ size m work
   unfolding size
   size_refused = call_refused (cut_list m) [] []
 
-  pub size_answered : (a : Answer) (c : Counts) (work₁ work₂ work₃ : List ℕ) → first m work ≡ 0 → CountsGraph s ls work work₁ c → CountsFaces s ls work₁ c work₂ a
-      → work₃ ≡ sets work₂ 0 (replicate (8 * plane s.width s.height) 0) → outcome a (work₃ ∷ []) ≡ size m work
+  pub size_answered : {a : Counts} {c : GraphCounts} {work₁ work₂ work₃ : List ℕ} → first m work ≡ 0 → CountsGraph s ls work work₁ c → CountsFaces s ls work₁ c work₂ a
+      → work₃ ≡ sets work₂ 0 (replicate (8 * plane s.width s.height) 0) → outcome (Ok a) (work₃ ∷ []) ≡ size m work
   unfolding size first_hit counted
-  size_answered a c work₁ work₂ work₃ z g k f =
-      ap (λ (n : ℕ). outcome (with_number n a) (work₃ ∷ [])) (ap (λ b. b.number) k.counts) ∙ call_answered (cut_list m) [] [] 0 a work₂ work₃ [] z tt refl k.counts (kept_then g.1 k.kept) f refl
+  size_answered {a} {work₂ = work₂} {work₃ = work₃} z g k f =
+      call_answered (cut_list m) [] [] (Ok tt) a work₂ work₃ [] z tt refl k.counts (kept_then g.1 k.kept) f refl
 
   -- GRAPH
 
   module _ (ns ss ps : List ℕ) where
-    pub graph_refused : (a : Answer) → (first m work ≡ 0 → ⊥) → answer_of a ≡ refused (first m work) → outcome a (work ∷ ns ∷ ss ∷ ps ∷ []) ≡ graph m work ns ss ps
+    pub graph_refused : (why : Refusal) → number_of why ≡ first m work → outcome (Err (unlooked why)) (work ∷ ns ∷ ss ∷ ps ∷ []) ≡ graph m work ns ss ps
     unfolding graph
     graph_refused = call_refused (graph_list m) _ (((graph_list m).nodes, ns) ∷ ((graph_list m).segments, ss) ∷ ((graph_list m).points, ps) ∷ [])
 
-    pub graph_answered : (n : ℕ) (a : Answer) (c : Counts) (work₁ work₂ work₃ ns' ss' ps' : List ℕ)
+    pub graph_answered : (room : Result (Unit {0}) Refusal) {c : GraphCounts} {work₁ work₂ work₃ ns' ss' ps' : List ℕ}
         → first m work ≡ 0
-        → a ≡ graph_answer c
         → CountsGraph s ls work work₁ c
-        → n ≡ first_hit (graph_checks (graph_list m) ns ss ps)
-        → GraphWritten s ls n work₁ ns ss ps work₂ ns' ss' ps'
+        → number_in room ≡ first_hit (graph_checks (graph_list m) ns ss ps)
+        → GraphWritten s ls (number_in room) work₁ ns ss ps work₂ ns' ss' ps'
         → work₃ ≡ sets work₂ 0 (replicate (8 * plane s.width s.height) 0)
-        → outcome (with_number n a) (work₃ ∷ ns' ∷ ss' ∷ ps' ∷ []) ≡ graph m work ns ss ps
+        → outcome (answered_by room (graph_counts c)) (work₃ ∷ ns' ∷ ss' ∷ ps' ∷ []) ≡ graph m work ns ss ps
     unfolding graph graph_checks
-    graph_answered n a c work₁ work₂ work₃ ns' ss' ps' z g k e w f =
-        call_answered (graph_list m) (graph_checks (graph_list m) ns ss ps) _ n a work₂ work₃ (ns' ∷ ss' ∷ ps' ∷ []) z
-        (omega arith, (omega arith, (omega arith, tt))) e (ap answer_of g ∙ k.0.counts)
+    graph_answered room {c} {work₂ = work₂} {work₃ = work₃} {ns' = ns'} {ss' = ss'} {ps' = ps'} z k e w f =
+        call_answered (graph_list m) (graph_checks (graph_list m) ns ss ps) _ room (graph_counts c) work₂ work₃ (ns' ∷ ss' ∷ ps' ∷ []) z
+        (omega arith, (omega arith, (omega arith, tt))) e k.0.counts
         (kept_then k.1 (kept_within (omega arith) (omega arith) w.kept)) f
         (λ i. w.nodes i ∷ w.segments i ∷ w.points i ∷ [])
 
   -- WHOLE
 
   module _ (ns ss ps rs cs fs : List ℕ) where
-    pub whole_refused : (a : Answer) → (first m work ≡ 0 → ⊥) → answer_of a ≡ refused (first m work)
-        → outcome a (work ∷ ns ∷ ss ∷ ps ∷ rs ∷ cs ∷ fs ∷ []) ≡ whole m work ns ss ps rs cs fs
+    pub whole_refused : (why : Refusal) → number_of why ≡ first m work
+        → outcome (Err (unlooked why)) (work ∷ ns ∷ ss ∷ ps ∷ rs ∷ cs ∷ fs ∷ []) ≡ whole m work ns ss ps rs cs fs
     unfolding whole
     whole_refused =
         let l = cut_list m in
         call_refused l _ ((l.nodes, ns) ∷ (l.segments, ss) ∷ (l.points, ps) ∷ (l.references, rs) ∷ (l.contours, cs) ∷ (l.faces, fs) ∷ [])
 
-    pub whole_answered : (n : ℕ) (a : Answer) (c : Counts) (work₁ work₂ work₃ work₄ work₅ ns' ss' ps' rs' cs' fs' : List ℕ)
+    pub whole_answered : (room : Result (Unit {0}) Refusal) {a : Counts} {c : GraphCounts} {work₁ work₂ work₃ work₄ work₅ ns' ss' ps' rs' cs' fs' : List ℕ}
         → first m work ≡ 0
         → CountsGraph s ls work work₁ c
         → CountsFaces s ls work₁ c work₂ a
-        → n ≡ first_hit (graph_checks (cut_list m) ns ss ps ++ face_checks (cut_list m) rs cs fs)
-        → GraphWritten s ls n work₂ ns ss ps work₃ ns' ss' ps'
-        → FacesWritten s ls n work₃ rs cs fs work₄ rs' cs' fs'
+        → number_in room ≡ first_hit (graph_checks (cut_list m) ns ss ps ++ face_checks (cut_list m) rs cs fs)
+        → GraphWritten s ls (number_in room) work₂ ns ss ps work₃ ns' ss' ps'
+        → FacesWritten s ls (number_in room) work₃ rs cs fs work₄ rs' cs' fs'
         → work₅ ≡ sets work₄ 0 (replicate (8 * plane s.width s.height) 0)
-        → outcome (with_number n a) (work₅ ∷ ns' ∷ ss' ∷ ps' ∷ rs' ∷ cs' ∷ fs' ∷ []) ≡ whole m work ns ss ps rs cs fs
+        → outcome (answered_by room a) (work₅ ∷ ns' ∷ ss' ∷ ps' ∷ rs' ∷ cs' ∷ fs' ∷ []) ≡ whole m work ns ss ps rs cs fs
     unfolding whole graph_checks face_checks graph_list cut_list cuts
-    whole_answered n a c work₁ work₂ work₃ work₄ work₅ ns' ss' ps' rs' cs' fs' z g k e w v f =
+    whole_answered room {a} {work₄ = work₄} {work₅ = work₅} {ns' = ns'} {ss' = ss'} {ps' = ps'} {rs' = rs'} {cs' = cs'} {fs' = fs'} z g k e w v f =
         let l = cut_list m in
         call_answered l (graph_checks l ns ss ps ++ face_checks l rs cs fs)
         ((l.nodes, ns) ∷ (l.segments, ss) ∷ (l.points, ps) ∷ (l.references, rs) ∷ (l.contours, cs) ∷ (l.faces, fs) ∷ [])
-        n a work₄ work₅ (ns' ∷ ss' ∷ ps' ∷ rs' ∷ cs' ∷ fs' ∷ []) z
+        room a work₄ work₅ (ns' ∷ ss' ∷ ps' ∷ rs' ∷ cs' ∷ fs' ∷ []) z
         (omega arith, (omega arith, (omega arith, (omega arith, (omega arith, (omega arith, tt)))))) e k.counts
         (kept_then g.1 (kept_then k.kept (kept_then (kept_within (omega arith) (omega arith) w.kept) v.kept))) f
         (λ i. w.nodes i ∷ w.segments i ∷ w.points i ∷ v.references i ∷ v.contours i ∷ v.faces i ∷ [])

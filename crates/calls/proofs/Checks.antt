@@ -8,10 +8,14 @@ use native.Mathlib.Decide.{ℕ_discrete}
 use lib.Dec.{ltb}
 use lib.ListN.{length}
 use borrow.Author.Tests.{lt-ltb, le-ltb, eq-eqb, ne_eqb, ltb-false}
-use Rattle.calls.specs.declared.Answer.{Answer}
-use Rattle.calls.specs.Outcome.{answer_of}
-use Rattle.calls.specs.Counted.{or_else}
+use Rattle.calls.specs.declared.Counts.{Counts}
+use Rattle.calls.specs.Outcome.{answer_with}
+use Rattle.std.specs.Prelude.{Result, Ok, Err}
+use Rattle.std.specs.Result.{result_and}
+use Rattle.rules.specs.declared.Refusal.{Refusal}
+use Rattle.rules.specs.Refusals.{number_of, number_in}
 use Rattle.rules.specs.Calls.{counted, Map, Check, first_hit, work_words, map_checks, CutList, short, graph_checks, face_checks}
+use Rattle.calls.proofs.Refusals.{positive}
 
 -- ANY CHECKS, each with a number above 0
 
@@ -41,13 +45,18 @@ hit_late (c ∷ cs) ds p e = go c.hits e (hit_late cs ds p.1)
     go true e f = absurd (let h = p.0 in omega arith)
     go false e f = f e
 
--- so the checks of two lists one after the other
-pub hits_or : (cs ds : List Check) → Positive cs → or_else (first_hit cs) (first_hit ds) ≡ first_hit (cs ++ ds)
-hits_or cs ds p =
-    elim (ℕ_discrete (first_hit cs) 0) [
-      | yes e ↦ rw (eq-eqb (first_hit cs) 0 e, or_else) (sym (hit_late cs ds p e))
-      | no n ↦ rw (ne_eqb (first_hit cs) 0 n, or_else) (sym (hit_early cs ds p n))
-    ]
+-- a refusal by the first is one by all, and where they do not hit the others' result is that of all
+pub then_stop : (cs ds : List Check) → Positive cs → (why : Refusal) → number_of why ≡ first_hit cs → number_of why ≡ first_hit (cs ++ ds)
+then_stop cs ds p why e = e ∙ sym (hit_early cs ds p (λ z. let h = positive why in omega arith))
+
+pub then_on : (cs ds : List Check) → Positive cs → {n : ℕ} → 0 ≡ first_hit cs → n ≡ first_hit ds → n ≡ first_hit (cs ++ ds)
+then_on cs ds p z e = e ∙ sym (hit_late cs ds p (sym z))
+
+-- and two results joined by `and` are one
+pub hits_and : (cs ds : List Check) → Positive cs → (r q : Result (Unit {0}) Refusal) → number_in r ≡ first_hit cs → number_in q ≡ first_hit ds
+    → number_in (result_and r q) ≡ first_hit (cs ++ ds)
+hits_and cs ds p (Ok u) q e f = then_on cs ds p e f
+hits_and cs ds p (Err why) q e f = then_stop cs ds p why e
 
 -- the number is 0 only where neither those nor these hit
 pub both_miss : (cs ds : List Check) → Positive cs → first_hit (cs ++ ds) ≡ 0 → (first_hit cs ≡ 0) × (first_hit ds ≡ 0)
@@ -111,24 +120,31 @@ abbrev pub lone : ℕ → ℕ → ℕ → Check
 lone number a n = record { number = number; hits = ltb a n }
 
 -- three such checks, one after the other
-pub in_turn : (c d e : Check) → 0 < c.number → 0 < d.number → {n s o t u : ℕ} → n ≡ or_else s o → o ≡ or_else t u
-    → s ≡ first_hit (c ∷ []) → t ≡ first_hit (d ∷ []) → u ≡ first_hit (e ∷ []) → n ≡ first_hit (c ∷ d ∷ e ∷ [])
-in_turn c d e hc hd {n} {s} {o} {t} {u} pn po ps pt pu =
-    let later : o ≡ first_hit (d ∷ e ∷ []) = po ∙ (λ i. or_else (pt i) (pu i)) ∙ hits_or (d ∷ []) (e ∷ []) (hd, tt) in
-    pn ∙ (λ i. or_else (ps i) (later i)) ∙ hits_or (c ∷ []) (d ∷ e ∷ []) (hc, tt)
+module _ {c d e : Check} {cs : List Check} (same : c ∷ d ∷ e ∷ [] ≡ cs) (hc : 0 < c.number) where
+  pub first_stops : (why : Refusal) → number_of why ≡ first_hit (c ∷ []) → number_of why ≡ first_hit cs
+  first_stops why s = then_stop (c ∷ []) (d ∷ e ∷ []) (hc, tt) why s ∙ ap first_hit same
+
+  module _ (hd : 0 < d.number) (z : 0 ≡ first_hit (c ∷ [])) where
+    pub second_stops : (why : Refusal) → number_of why ≡ first_hit (d ∷ []) → number_of why ≡ first_hit cs
+    second_stops why s = then_on (c ∷ []) (d ∷ e ∷ []) (hc, tt) z (then_stop (d ∷ []) (e ∷ []) (hd, tt) why s) ∙ ap first_hit same
+
+    pub third_decides : {n : ℕ} → 0 ≡ first_hit (d ∷ []) → n ≡ first_hit (e ∷ []) → n ≡ first_hit cs
+    third_decides y s = then_on (c ∷ []) (d ∷ e ∷ []) (hc, tt) z (then_on (d ∷ []) (e ∷ []) (hd, tt) y s) ∙ ap first_hit same
 
 -- the rules' checks are such
-pub graph_room : (a : Answer) (l : CutList) (ns ss ps : List ℕ) → answer_of a ≡ counted 0 l
-    → lone 4 (length ns / 6) a.nodes ∷ lone 5 (length ss / 8) a.segments ∷ lone 6 (length ps / 2) a.points ∷ [] ≡ graph_checks l ns ss ps
+pub graph_room : (c : Counts) (l : CutList) (ns ss ps : List ℕ) → answer_with 0 c ≡ counted 0 l
+    → {nodes segments points : ℕ} → length ns ≡ nodes → length ss ≡ segments → length ps ≡ points
+    → lone 4 (nodes / 6) c.nodes ∷ lone 5 (segments / 8) c.segments ∷ lone 6 (points / 2) c.points ∷ [] ≡ graph_checks l ns ss ps
 unfolding graph_checks short counted
-graph_room a l ns ss ps k = rw (ap (λ b. b.nodes) k, ap (λ b. b.segments) k, ap (λ b. b.points) k)
+graph_room c l ns ss ps k en es ep = rw (← en, ← es, ← ep, ap (λ b. b.nodes) k, ap (λ b. b.segments) k, ap (λ b. b.points) k)
 
-pub face_room : (a : Answer) (l : CutList) (rs cs fs : List ℕ) → answer_of a ≡ counted 0 l
-    → lone 7 (length rs) a.references ∷ lone 8 (length cs / 2) a.contours ∷ lone 9 (length fs / 5) a.faces ∷ [] ≡ face_checks l rs cs fs
+pub face_room : (c : Counts) (l : CutList) (rs cs fs : List ℕ) → answer_with 0 c ≡ counted 0 l
+    → {references contours faces : ℕ} → length rs ≡ references → length cs ≡ contours → length fs ≡ faces
+    → lone 7 references c.references ∷ lone 8 (contours / 2) c.contours ∷ lone 9 (faces / 5) c.faces ∷ [] ≡ face_checks l rs cs fs
 unfolding face_checks short counted
-face_room a l rs cs fs k =
+face_room c l rs cs fs k er ec ef =
     let single : (n : ℕ) → n / 1 ≡ n = λ n. omega arith in
-    rw (single (length rs), single (length l.references), ap (λ b. b.references) k, ap (λ b. b.contours) k, ap (λ b. b.faces) k)
+    rw (← er, ← ec, ← ef, single (length rs), single (length l.references), ap (λ b. b.references) k, ap (λ b. b.contours) k, ap (λ b. b.faces) k)
 
 pub graph_positive : (l : CutList) (ns ss ps : List ℕ) → Positive (graph_checks l ns ss ps)
 unfolding graph_checks

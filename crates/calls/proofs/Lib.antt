@@ -1,3 +1,4 @@
+pub mod Refusals
 pub mod Checks
 pub mod Outcomes
 pub mod Steps

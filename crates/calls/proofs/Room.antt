@@ -1,7 +1,7 @@
 -- Room for any map of given sides: stores that pass the checks with the most counts pass them with a map's own.
 use Prim.Native.Nat.{ℕ, ◌*◌, ◌/◌, ◌≤◌}
 use mathlib.Core.Bool.{Bool, false}
-use mathlib.Core.Path.{◌≡◌, refl, sym, ap, ◌∙◌}
+use mathlib.Core.Path.{◌≡◌, sym, ap, ◌∙◌}
 use mathlib.Core.List.{List, ◌++◌}
 use native.Mathlib.Omega.{arith}
 use native.Mathlib.Nat.{mul_assoc}
@@ -14,14 +14,14 @@ use Rattle.rules.proofs.CutList.Counts.{bounds}
 use Rattle.lattice.specs.declared.Size.{Size}
 use Rattle.lattice.proofs.Planes.{plane_is}
 use Rattle.lattice.proofs.Frame.{framed}
-use Rattle.calls.specs.declared.Answer.{Answer}
-use Rattle.calls.specs.Outcome.{map_of, answer_of}
+use Rattle.calls.specs.declared.Counts.{Counts}
+use Rattle.calls.specs.Outcome.{map_of, answer_with}
 use Rattle.calls.specs.Counted.{most_of}
 use Rattle.calls.proofs.Checks.{all_miss, both_miss, hit_late, room, three, graph_positive}
 use Rattle.calls.proofs.Calls.{same_checks}
 
--- A CUT LIST with the counts of an answer, its words all 0
-abbrev blank : Answer → CutList
+-- A CUT LIST with given counts, its words all 0
+abbrev blank : Counts → CutList
 blank a =
     record {
       nodes = replicate (6 * a.nodes) 0;
@@ -33,9 +33,9 @@ blank a =
       steps = a.steps;
     }
 
-blank_counted : (a : Answer) → a.number ≡ 0 → answer_of a ≡ counted 0 (blank a)
+blank_counted : (a : Counts) → answer_with 0 a ≡ counted 0 (blank a)
 unfolding counted
-blank_counted a z =
+blank_counted a =
     let words : (n : ℕ) → length (replicate {A = ℕ} n 0) ≡ n = λ n. length-replicate n 0 in
     let nodes : a.nodes ≡ length (blank a).nodes / 6 = omega (arith, words (6 * a.nodes)) in
     let segments : a.segments ≡ length (blank a).segments / 8 = omega (arith, words (8 * a.segments)) in
@@ -44,7 +44,7 @@ blank_counted a z =
     let contours : a.contours ≡ length (blank a).contours / 2 = omega (arith, words (2 * a.contours)) in
     let faces : a.faces ≡ length (blank a).faces / 5 = omega (arith, words (5 * a.faces)) in
     λ i. record {
-      number = z i;
+      number = 0;
       nodes = nodes i;
       segments = segments i;
       points = points i;
@@ -108,8 +108,8 @@ module _ (s : Size) where
   abbrev pub fullest : CutList
   fullest = blank (most_of s)
 
-  pub most_counted : answer_of (most_of s) ≡ counted 0 fullest
-  most_counted = blank_counted (most_of s) refl
+  pub most_counted : answer_with 0 (most_of s) ≡ counted 0 fullest
+  most_counted = blank_counted (most_of s)
 
   module _ (ls : List ℕ) (b : s.paints ≤ OUTSIDE) where
     fewer : Fewer (cut_list (map_of s ls)) fullest

@@ -20,7 +20,7 @@ use Rattle.lattice.specs.declared.Size.{Size}
 use Rattle.lattice.specs.Size.{Map, pic}
 use Rattle.lattice.specs.Planes.{plane}
 use Rattle.lattice.proofs.Frame.{framed}
-use Rattle.graph.specs.declared.Counts.{Counts}
+use Rattle.graph.specs.declared.Counts.{Counts as GraphCounts}
 use Rattle.graph.specs.Extracted.{Extracted}
 use Rattle.graph.proofs.Listing.{noded_beyond}
 use Rattle.face.specs.declared.Counts.{Counts as FaceCounts}
@@ -29,7 +29,8 @@ use Rattle.assemble.specs.declared.Done.{Done}
 use Rattle.assemble.specs.Drawn.{Written}
 use Rattle.assemble.specs.Assembly.{Standing, Assembled}
 use Rattle.assemble.proofs.Drawing.{drawn, pointed}
-use Rattle.calls.specs.Outcome.{map_of, answer_of, graph_answer, with_faces}
+use Rattle.calls.specs.declared.Counts.{Counts}
+use Rattle.calls.specs.Outcome.{map_of, graph_counts, with_faces, answer_with}
 use Rattle.calls.specs.Steps.{GraphCounted, CountsGraph, IslandsNumbered, CountsFaces, GraphRoomy, GraphWritten, FacesRoomy, FacesWritten}
 use Rattle.calls.proofs.Outcomes.{store_written, store_kept}
 
@@ -38,9 +39,9 @@ in_front : (words store : List ℕ) {store' : List ℕ} → store' ≡ words ++ 
 in_front words store e i h = rw e (get_or-append words (drop (length words) store) 0 i h)
 
 -- the counts of faces beside those of the graph
-with_faces_lem : (s : Size) (ls : List ℕ) (c : Counts) (f : FaceCounts) → answer_of (graph_answer c) ≡ counted 0 (graph_list (map_of s ls))
+with_faces_lem : (s : Size) (ls : List ℕ) (c : GraphCounts) (f : FaceCounts) → answer_with 0 (graph_counts c) ≡ counted 0 (graph_list (map_of s ls))
     → f.references ≡ (counted 0 (cut_list (map_of s ls))).references → f.contours ≡ (counted 0 (cut_list (map_of s ls))).contours → f.faces ≡ (counted 0 (cut_list (map_of s ls))).faces
-    → answer_of (with_faces c f) ≡ counted 0 (cut_list (map_of s ls))
+    → answer_with 0 (with_faces c f) ≡ counted 0 (cut_list (map_of s ls))
 unfolding graph_list cut_list counted cuts
 with_faces_lem s ls c f g er ec ef = λ i. record {
   number = 0;
@@ -56,7 +57,7 @@ with_faces_lem s ls c f g er ec ef = λ i. record {
 module _ {s : Size} {ls : List ℕ} where
   -- COUNTED
 
-  pub graph_counted : {work ns ss ps work' ns' ss' ps' : List ℕ} {c : Counts} → Extracted s ls 5 work ns ss ps work' ns' ss' ps' c → CountsGraph s ls work work' c
+  pub graph_counted : {work ns ss ps work' ns' ss' ps' : List ℕ} {c : GraphCounts} → Extracted s ls 5 work ns ss ps work' ns' ss' ps' c → CountsGraph s ls work work' c
   unfolding graph_list counted cuts contours_of flat contour_words face_words
   graph_counted {c} e =
       let k = counts (framed s ls) (describes (framed s ls)) [] 0 in (
@@ -78,11 +79,11 @@ module _ {s : Size} {ls : List ℕ} where
       )
 
   -- the graph's counts stay where planes from 5 on are used
-  pub still_counted : {work work' : List ℕ} {c : Counts} → Kept (5 * plane s.width s.height) (8 * plane s.width s.height) work work' → GraphCounted s ls work c → GraphCounted s ls work' c
+  pub still_counted : {work work' : List ℕ} {c : GraphCounts} → Kept (5 * plane s.width s.height) (8 * plane s.width s.height) work work' → GraphCounted s ls work c → GraphCounted s ls work' c
   still_counted k g = record { counts = g.counts; noded = noded_beyond k g.noded; tallied = g.tallied }
 
-  module _ {work : List ℕ} {c : Counts} {f : FaceCounts} (g : GraphCounted s ls work c) where
-    pub all_counted : CountsOf (faces (pic s ls) (segments (pic s ls)) s.paints) f → answer_of (with_faces c f) ≡ counted 0 (cut_list (map_of s ls))
+  module _ {work : List ℕ} {c : GraphCounts} {f : FaceCounts} (g : GraphCounted s ls work c) where
+    pub all_counted : CountsOf (faces (pic s ls) (segments (pic s ls)) s.paints) f → answer_with 0 (with_faces c f) ≡ counted 0 (cut_list (map_of s ls))
     unfolding cut_list
     all_counted n =
         let F = framed s ls in
@@ -101,7 +102,7 @@ module _ {s : Size} {ls : List ℕ} where
   -- WRITTEN
 
   module _ {n : ℕ} {work ns ss ps : List ℕ} where
-    pub graph_written : {used : ℕ} {work₁ work₂ work' ns' ss' ps' : List ℕ} {c : Counts} → n ≡ 0 → GraphRoomy s ls n ns ss ps
+    pub graph_written : {used : ℕ} {work₁ work₂ work' ns' ss' ps' : List ℕ} {c : GraphCounts} → n ≡ 0 → GraphRoomy s ls n ns ss ps
         → Extracted s ls used work₁ ns ss ps work₂ ns' ss' ps' c → Kept 0 (2 * plane s.width s.height) work work' → GraphWritten s ls n work ns ss ps work' ns' ss' ps'
     unfolding graph_list cuts
     graph_written z r e k =
@@ -124,7 +125,7 @@ module _ {s : Size} {ls : List ℕ} where
         }
 
   -- what the assembly asks, once the graph stands in its stores
-  pub graph_standing : {work work' ns ss ps ns' ss' ps' : List ℕ} {c : Counts} {n : ℕ} → Map s ls → 8 * plane s.width s.height ≤ length work → n ≡ 0
+  pub graph_standing : {work work' ns ss ps ns' ss' ps' : List ℕ} {c : GraphCounts} {n : ℕ} → Map s ls → 8 * plane s.width s.height ≤ length work → n ≡ 0
       → GraphCounted s ls work c → IslandsNumbered s ls work
       → GraphWritten s ls n work ns ss ps work' ns' ss' ps' → Standing s ls ns' ss' ps' c.segments work' (segments (pic s ls))
   unfolding graph_list counted cuts store_after
@@ -144,6 +145,12 @@ module _ {s : Size} {ls : List ℕ} where
         planes = omega (arith, w.kept.long);
         numbers = λ p b o. w.kept.others (5 * plane s.width s.height + p) (inr (omega arith)) ∙ numbers p b o;
       }
+
+  -- both of a graph that is traced after its faces are counted
+  pub traced : {work₀ work work' ns ss ps ns' ss' ps' : List ℕ} {c c' : GraphCounts} {counts : Counts} {n : ℕ} → Map s ls → CountsFaces s ls work₀ c work counts → 8 * plane s.width s.height ≤ length work
+      → n ≡ 0 → GraphRoomy s ls n ns ss ps → Extracted s ls 2 work ns ss ps work' ns' ss' ps' c'
+      → GraphWritten s ls n work ns ss ps work' ns' ss' ps' × Standing s ls ns' ss' ps' c.segments work' (segments (pic s ls))
+  traced M k h z r e = let w = graph_written z r e e.kept in (w, graph_standing M h z k.graph k.numbers w)
 
   module _ {n : ℕ} {work rs cs fs : List ℕ} where
     pub faces_written : {work' rs' cs' fs' : List ℕ} {d : Done} → n ≡ 0 → FacesRoomy s ls n rs cs fs

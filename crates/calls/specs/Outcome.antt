@@ -1,11 +1,13 @@
 -- What a call took and what it left, as the rules have them.
-use Rattle.std.specs.Prelude.{ℕ, List, [], ◌∷◌, get_or}
-use Rattle.rules.specs.Calls.{Map, Outcome}
-use Rattle.rules.specs.Calls.{Answer as RulesAnswer}
+use Rattle.std.specs.Prelude.{ℕ, List, [], ◌∷◌, get_or, Result, Ok, Err}
+use Rattle.rules.specs.declared.Refusal.{Refusal}
+use Rattle.rules.specs.Calls.{Map, Answer, Outcome}
+use Rattle.rules.specs.Refusals.{number_of}
 use Rattle.lattice.specs.declared.Size.{Size}
-use Rattle.graph.specs.declared.Counts.{Counts}
+use Rattle.graph.specs.declared.Counts.{Counts as GraphCounts}
 use Rattle.face.specs.declared.Counts.{Counts as FaceCounts}
-use Rattle.calls.specs.declared.Answer.{Answer}
+use Rattle.calls.specs.declared.Counts.{Counts}
+use Rattle.calls.specs.declared.Refused.{Refused}
 
 abbrev pub map_with : ℕ → ℕ → ℕ → ℕ → List ℕ → Map
 map_with w h paints bound ls = record { width = w; height = h; paints = paints; bound = bound; labels = ls }
@@ -13,45 +15,49 @@ map_with w h paints bound ls = record { width = w; height = h; paints = paints; 
 abbrev pub map_of : Size → List ℕ → Map
 map_of s ls = map_with s.width s.height s.paints s.bound ls
 
-abbrev pub answer_of : Answer → RulesAnswer
-answer_of a =
-    record {
-      number = a.number;
-      nodes = a.nodes;
-      segments = a.segments;
-      points = a.points;
-      references = a.references;
-      contours = a.contours;
-      faces = a.faces;
-      steps = a.steps;
-    }
+-- COUNTS
 
--- the counts of a graph, and none of faces
-abbrev pub graph_answer : Counts → Answer
-graph_answer c = record { number = 0; nodes = c.nodes; segments = c.segments; points = c.points; references = 0; contours = 0; faces = 0; steps = c.steps }
+-- of a graph, and none of faces
+abbrev pub graph_counts : GraphCounts → Counts
+graph_counts c = record { nodes = c.nodes; segments = c.segments; points = c.points; references = 0; contours = 0; faces = 0; steps = c.steps }
 
 -- and with those of faces
-abbrev pub with_faces : Counts → FaceCounts → Answer
+abbrev pub with_faces : GraphCounts → FaceCounts → Counts
 with_faces c f =
-    record { number = 0; nodes = c.nodes; segments = c.segments; points = c.points; references = f.references; contours = f.contours; faces = f.faces; steps = c.steps }
+    record { nodes = c.nodes; segments = c.segments; points = c.points; references = f.references; contours = f.contours; faces = f.faces; steps = c.steps }
 
--- the counts with another number
-abbrev pub with_number : ℕ → Answer → Answer
-with_number n a =
+-- THE ANSWER
+
+-- the counts with a number
+abbrev pub answer_with : ℕ → Counts → Answer
+answer_with n c =
     record {
       number = n;
-      nodes = a.nodes;
-      segments = a.segments;
-      points = a.points;
-      references = a.references;
-      contours = a.contours;
-      faces = a.faces;
-      steps = a.steps;
+      nodes = c.nodes;
+      segments = c.segments;
+      points = c.points;
+      references = c.references;
+      contours = c.contours;
+      faces = c.faces;
+      steps = c.steps;
     }
 
+-- a refusal before the map was looked at
+abbrev pub unlooked : Refusal → Refused
+unlooked why = record { why = why; counts = record { nodes = 0; segments = 0; points = 0; references = 0; contours = 0; faces = 0; steps = 0 } }
+
+abbrev pub answer_of : Result Counts Refused → Answer
+answer_of (Ok c) = answer_with 0 c
+answer_of (Err r) = answer_with (number_of r.why) r.counts
+
+-- what is answered after the counting, by the check of the stores
+abbrev pub answered_by : Result (Unit {0}) Refusal → Counts → Result Counts Refused
+answered_by (Ok u) c = Ok c
+answered_by (Err why) c = Err (record { why = why; counts = c })
+
 -- the answer, and every lent store afterwards, in the order of the parameters
-abbrev pub outcome : Answer → List (List ℕ) → Outcome
-outcome a stores = record { answer = answer_of a; stores = stores }
+abbrev pub outcome : Result Counts Refused → List (List ℕ) → Outcome
+outcome r stores = record { answer = answer_of r; stores = stores }
 
 -- IN WORDS, as C programs have it
 

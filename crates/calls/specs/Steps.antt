@@ -7,20 +7,20 @@ use Rattle.store.specs.Words.{Kept}
 use Rattle.lattice.specs.declared.Size.{Size}
 use Rattle.lattice.specs.Size.{pic}
 use Rattle.lattice.specs.Planes.{plane}
-use Rattle.graph.specs.declared.Counts.{Counts}
+use Rattle.graph.specs.declared.Counts.{Counts as GraphCounts}
 use Rattle.graph.specs.Nodes.{Noded, Tallied, found_of}
-use Rattle.calls.specs.declared.Answer.{Answer}
-use Rattle.calls.specs.Outcome.{map_of, answer_of, graph_answer}
+use Rattle.calls.specs.declared.Counts.{Counts}
+use Rattle.calls.specs.Outcome.{map_of, answer_with, graph_counts}
 
 -- COUNTED
 
 -- the graph is counted; its nodes and bends stand in the work store
-pub record GraphCounted (s : Size) (ls work : List ℕ) (c : Counts) : Type 0 where
-  pub counts : answer_of (graph_answer c) ≡ counted 0 (graph_list (map_of s ls))
+pub record GraphCounted (s : Size) (ls work : List ℕ) (c : GraphCounts) : Type 0 where
+  pub counts : answer_with 0 (graph_counts c) ≡ counted 0 (graph_list (map_of s ls))
   pub noded : Noded s ls work
   pub tallied : Tallied s ls (found_of c)
 
-abbrev pub CountsGraph : Size → List ℕ → List ℕ → List ℕ → Counts → Type 0
+abbrev pub CountsGraph : Size → List ℕ → List ℕ → List ℕ → GraphCounts → Type 0
 CountsGraph s ls work work' c = GraphCounted s ls work' c × Kept 0 (8 * plane s.width s.height) work work'
 
 -- the first pixel of each pixel's island stands in plane 5
@@ -29,8 +29,8 @@ IslandsNumbered s ls work =
     (p : ℕ) → p < s.width * s.height → (label_of (pic s ls) p ≡ OUTSIDE → ⊥) → get_or work (5 * plane s.width s.height + p) 0 ≡ get_or (firsts (pic s ls)) p 0
 
 -- and its faces are
-pub record CountsFaces (s : Size) (ls work : List ℕ) (c : Counts) (work' : List ℕ) (a : Answer) : Type 0 where
-  pub counts : answer_of a ≡ counted 0 (cut_list (map_of s ls))
+pub record CountsFaces (s : Size) (ls work : List ℕ) (c : GraphCounts) (work' : List ℕ) (total : Counts) : Type 0 where
+  pub counts : answer_with 0 total ≡ counted 0 (cut_list (map_of s ls))
   pub graph : GraphCounted s ls work' c
   pub numbers : IslandsNumbered s ls work'
   pub kept : Kept 0 (8 * plane s.width s.height) work work'

@@ -2,7 +2,9 @@
 use Rattle.std.specs.Prelude.{ℕ, ◌+◌, ◌<◌, ◌≤◌, Bool, true, cond, ◌&&◌, ◌≡◌, ◌⊎◌, eqb, length, get_or, set}
 use mathlib.Core.List.{List, [], ◌∷◌, Memᴰ as In}
 use Rattle.rules.specs.Lists.{flat}
-use Rattle.rules.specs.Picture.{Dir, E, right_of, left_of, code, same_dir, Dart, dart, ahead_x, ahead_y, crack, left}
+use Rattle.rules.specs.Picture.{right_of, left_of, same_dir, Dart, dart, ahead_x, ahead_y, crack, left}
+use Rattle.rules.specs.declared.Dir.{Dir}
+use Rattle.rules.specs.declared.Dir.TheVariants.{E}
 use Rattle.rules.specs.Face.{contours}
 use Rattle.rules.specs.Describes.{Describes}
 use Rattle.rules.proofs.Ground.Sums.{sum}
@@ -16,7 +18,6 @@ use Rattle.lattice.specs.Size.{Map, pic}
 use Rattle.lattice.specs.Planes.{plane, place}
 use Rattle.lattice.specs.Around.{left_in, crack_in}
 use Rattle.lattice.specs.Walker.{dart_of}
-use Rattle.lattice.specs.Dirs.{dir}
 use Rattle.face.specs.declared.contours.Found.{Found}
 
 -- THE TURN, by the four labels around a corner
@@ -30,7 +31,7 @@ successor_in a region d = cond (keeps_in a region (right_of d)) (right_of d) (co
 
 -- the walker after a step of a contour, by the labels around the corner ahead
 abbrev pub turn_in : Around → ℕ → Walker → Walker
-turn_in a region w = record { x = ahead_x (dart_of w); y = ahead_y (dart_of w); d = code (successor_in a region (dir w.d)) }
+turn_in a region w = record { x = ahead_x (dart_of w); y = ahead_y (dart_of w); d = successor_in a region w.d }
 
 -- THE MARKS: in the plane that starts at `at` a word for each corner, for the step that goes east from it
 
@@ -48,7 +49,6 @@ easts_marked at w ws (a ∷ more) = easts_marked at w (east_marked at w ws a) mo
 -- a crack of the map, with the region on its left
 pub record Starts (s : Size) (ls : List ℕ) (w : Walker) (region : ℕ) : Type 0 where
   pub map : Map s ls
-  pub way : w.d < 4
   pub crack : crack (pic s ls) (dart_of w) ≡ true
   pub left : left (pic s ls) (dart_of w) ≡ region
 

@@ -1,5 +1,5 @@
 -- The numbers of the pixels, from `ids` on in the work store, while islands are joined: each pixel names one of its island, not after itself.
-use Rattle.std.specs.Prelude.{◌≡◌, Bool, ◌&&◌, List, ℕ, suc, ◌+◌, ◌*◌, ◌/◌, ◌%◌, ◌≤◌, ◌<◌, ltb, eqb, length, get_or, set}
+use Rattle.std.specs.Prelude.{◌≡◌, Bool, cond, ◌&&◌, List, Option, Some, None, ℕ, suc, ◌+◌, ◌-◌, ◌*◌, ◌/◌, ◌%◌, ◌≤◌, ◌<◌, ltb, eqb, length, get_or, set}
 use Rattle.rules.specs.Picture.{Picture, picture, OUTSIDE, one}
 use Rattle.rules.specs.Face.{label_of, firsts, islands}
 use Rattle.rules.proofs.Islands.Joined.{Step, Joined}
@@ -92,6 +92,13 @@ pub record Over (m : Plan) (x p at : ℕ) : Type 0 where
   pub down : at / m.width ≤ p / m.width
   pub up : p / m.width ≤ suc (at / m.width)
 
+-- the pixel left or right of `at`, which stands in the column x, if there is one
+abbrev pub beside_left : ℕ → ℕ → Option ℕ
+beside_left x at = cond (ltb 0 x) (Some (at - 1)) None
+
+abbrev pub beside_right : ℕ → ℕ → ℕ → Option ℕ
+beside_right width x at = cond (ltb (x + 1) width) (Some (at + 1)) None
+
 abbrev pub LeftOf : Plan → ℕ → ℕ → Type 0
 LeftOf m at q = (suc (q % m.width) ≡ at % m.width) × (q / m.width ≡ at / m.width)
 
@@ -116,10 +123,6 @@ pub record Hand (m : Plan) (x p : ℕ) (ls work : List ℕ) : Type 0 where
 pub record Links (m : Plan) (j : ℕ) (ls work : List ℕ) (k : ℕ) (work' : List ℕ) : Type 0 where
   pub linked : Linked m k ls work'
   pub kept : Kept m.ids (m.ids + area m) work work'
-
-pub record NextColumn (width x r : ℕ) : Type 0 where
-  pub wraps : suc x ≡ width → r ≡ 0
-  pub goes : (suc x ≡ width → ⊥) → r ≡ suc x
 
 -- SETTLING: each pixel before i takes over the number of the one that it names
 

@@ -21,8 +21,8 @@ pub struct Counts {
 
 // How many references, contours and faces a map has. The numbers of the islands stay in plane 5 of the work store; plane 7 is used.
 pub fn count(s: Size, labels: &[u32], work: &mut [u32]) -> Counts
-    requires fact_1 { Map s labels.now }
-    requires fact_2 { 8 * plane s.width s.height ≤ length work.old }
+    requires map { Map s labels.now }
+    requires room { 8 * plane s.width s.height ≤ length work.old }
     ensures { Counted s labels.now work.old result work.new }
 {
     let faces = islands::islands(s, labels, work);

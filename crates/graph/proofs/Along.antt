@@ -1,12 +1,12 @@
 -- A walk under way, and its end.
-use Prim.Native.Nat.{ℕ, zero, suc, ◌+◌, ◌*◌, ◌≤◌, ◌<◌}
+use Prim.Native.Nat.{ℕ, zero, suc, ◌+◌, ◌*◌, ◌≤◌}
 use mathlib.Core.Path.{◌≡◌, refl, sym, ap, subst, ◌∙◌}
 use mathlib.Core.Bool.{Bool, true, false, ◌&&◌, ◌||◌}
 use mathlib.Core.List.{List, [], ◌∷◌, ◌++◌, append_assoc, Memᴰ as In}
 use native.Mathlib.Omega.{arith}
 use lib.Dec.{eqb}
 use lib.ListN.{length, set, length-append}
-use lib.Seq.{sets, length-sets}
+use lib.Seq.{sets}
 use Rattle.rules.specs.Picture.{Picture, Dart, crack, ahead_x, ahead_y}
 use Rattle.rules.specs.Graph.{walk, fuel, following, meets, ending}
 use Rattle.rules.specs.Records.{point_records}
@@ -17,11 +17,10 @@ use Rattle.rules.proofs.Tracing.Walks.{Steps, going_meets, the_walk, walk_crack}
 use Rattle.lattice.specs.declared.Around.{Around}
 use Rattle.lattice.specs.declared.Size.{Size}
 use Rattle.lattice.specs.declared.Walker.{Walker}
-use Rattle.lattice.specs.Around.{around_of, node_in, onward_in}
+use Rattle.lattice.specs.Around.{around_of, node_in}
 use Rattle.lattice.specs.Size.{Map, pic}
-use Rattle.lattice.specs.Dirs.{dir}
-use Rattle.lattice.specs.Walker.{dart_of, Edge, moved_of, step_in}
-use Rattle.lattice.proofs.Ways.{code_dir, code_small, node_in_lem, step_follows}
+use Rattle.lattice.specs.Walker.{dart_of, Ahead, Edge, moved_of, step_in}
+use Rattle.lattice.proofs.Ways.{node_in_lem, step_follows}
 use Rattle.lattice.proofs.Frame.{crack_edge, framed}
 use Rattle.graph.specs.Planes.{slot, mark_all, Inside}
 use Rattle.graph.specs.Walk.{steps_of, reached, Starts, Went, end_of}
@@ -65,6 +64,10 @@ steps_inside s ls w h c i =
     let r = the_walk F (dart_of w) h.crack in
     crack_inside s ls c (walk_crack F w.x w.y (dart_of w) r.0 h.crack r.2 c (subst (In c) r.1 i))
 
+-- room to move along an edge
+pub edge_ahead : {s : Size} {ls : List ℕ} {w : Walker} → Map s ls → Edge s w → Ahead w
+edge_ahead m e = record { across = omega (arith, e.across, m.wide); down = omega (arith, e.down, m.high); north = e.north; west = e.west }
+
 module _ (s : Size) (ls work₀ points₀ : List ℕ) (at : ℕ) (w : Walker) where
   -- at the head of the loop: `done` is walked, `more` comes after the step ahead
   pub record Sofar (work points : List ℕ) (c : Walker) (n : ℕ) : Type 0 where
@@ -75,26 +78,22 @@ module _ (s : Size) (ls work₀ points₀ : List ℕ) (at : ℕ) (w : Walker) wh
     pub left : Steps (pic s ls) w.x w.y (dart_of c) more
     pub words : work ≡ mark_all s.width s.height work₀ done
     pub stored : points ≡ sets points₀ (2 * (at + 1)) (reached done)
-    pub way : c.d < 4
     pub crack : crack (pic s ls) (dart_of c) ≡ true
 
   pub begin : Starts s ls w → Sofar work₀ points₀ w 0
   begin h =
       let r = the_walk (framed s ls) (dart_of w) h.crack in
-      record { done = []; more = r.0; count = refl; whole = r.1; left = r.2; words = refl; stored = refl; way = h.way; crack = h.crack }
+      record { done = []; more = r.0; count = refl; whole = r.1; left = r.2; words = refl; stored = refl; crack = h.crack }
 
   module _ {work points : List ℕ} {c : Walker} {n : ℕ} (o : Sofar work points c n) where
     pub edge : Edge s c
-    edge = crack_edge s ls c o.way o.crack
+    edge = crack_edge s ls c o.crack
 
     pub long : suc n ≤ length (steps_of s ls w)
     long = omega (arith, simp length-append at (ap length o.whole), o.count)
 
     pub work_length : length work ≡ length work₀
     work_length = ap length o.words ∙ length_marks s.width s.height work₀ o.done
-
-    pub points_length : length points ≡ length points₀
-    points_length = ap length o.stored ∙ length-sets points₀ (2 * (at + 1)) (reached o.done)
 
     module _ {work' points' : List ℕ} {m : Walker}
         (marks : work' ≡ set work (slot s.width s.height (dart_of c)) 1)
@@ -123,12 +122,11 @@ module _ (s : Size) (ls work₀ points₀ : List ℕ) (at : ℕ) (w : Walker) wh
             left = rw f r.2;
             words = words_more;
             stored = points_more;
-            way = code_small (onward_in a (dir c.d));
             crack = rw f (following_crack (framed s ls) b o.crack (going_meets P w.x w.y b e));
           }
 
       -- the walk is over
-      pub gone : ending (pic s ls) w.x w.y (dart_of c) ≡ true → Went s ls work₀ points₀ at w work' points' (record { x = m.x; y = m.y; d = m.d; steps = n + 1 })
+      pub gone : ending (pic s ls) w.x w.y (dart_of c) ≡ true → Went s ls work₀ points₀ at w work' points' (record { to = m; steps = n + 1 })
       gone e =
           let b = dart_of c in
           let all : steps_of s ls w ≡ o.done ++ (b ∷ []) = o.whole ∙ ap (λ (l : List Dart). o.done ++ (b ∷ l)) (over (following (pic s ls)) (ending (pic s ls) w.x w.y) b o.more o.left e) in
@@ -137,7 +135,7 @@ module _ (s : Size) (ls work₀ points₀ : List ℕ) (at : ℕ) (w : Walker) wh
             count = omega (arith, ap length all, length_more o.done b, o.count);
             x = rw (z, moves);
             y = rw (z, moves);
-            d = rw (z, moves) (sym (code_dir c.d o.way));
+            d = rw (z, moves);
             words = rw all words_more;
             stored = rw all points_more;
           }

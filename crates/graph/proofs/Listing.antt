@@ -14,7 +14,8 @@ use native.Mathlib.Decide.{ℕ_discrete}
 use lib.ListN.{length, get_or, set, length-set, length-append, length-map}
 use lib.Seq.{sets, get_or-set_same, get_or-set_other}
 use Rattle.rules.specs.Lists.{keep, flat, upto, Distinct}
-use Rattle.rules.specs.Picture.{Picture, picture, N, E, S, W, one, dart, crack, node}
+use Rattle.rules.specs.Picture.{Picture, picture, one, dart, crack, node}
+use Rattle.rules.specs.declared.Dir.TheVariants.{N, E, S, W}
 use Rattle.rules.specs.Graph.{rows, corners, nodes}
 use Rattle.rules.specs.Face.{refs, out_entry}
 use Rattle.rules.specs.Records.{node_at, node_record, node_words}
@@ -26,7 +27,7 @@ use Rattle.store.specs.Words.{Kept}
 use Rattle.store.proofs.Writes.{sets_more, kept_none, kept_then, kept_set}
 use Rattle.lattice.specs.declared.Size.{Size}
 use Rattle.lattice.specs.declared.Around.{Around}
-use Rattle.lattice.specs.Size.{Sides, Map, Corner, pic}
+use Rattle.lattice.specs.Size.{Corner, pic}
 use Rattle.lattice.specs.Planes.{plane, place}
 use Rattle.lattice.specs.Around.{around_of, mask_in, node_in}
 use Rattle.lattice.proofs.Frame.{framed}
@@ -54,6 +55,9 @@ corners_snoc : (work : List ℕ) (at n : ℕ) → corners_at work at (n + 1) ≡
 corners_snoc work at n =
     let z : 0 + n ≡ n = omega arith in
     rw (add-one n, upto_snoc n 0, z) (map-append (λ i. unpacked (get_or work (at + i) 0)) (upto n 0) (n ∷ []))
+
+pub length_corners : (work : List ℕ) (at n : ℕ) → length (corners_at work at n) ≡ n
+length_corners work at n = length-map (upto n 0) (λ i. unpacked (get_or work (at + i) 0)) ∙ length_upto n 0
 
 -- by number
 pub corner_nth : (work : List ℕ) (at n i : ℕ) → i < n → get_or (corners_at work at n) i (0, 0) ≡ unpacked (get_or work (at + i) 0)
@@ -252,23 +256,13 @@ module _ (s : Size) (ls work₀ : List ℕ) (rest : List (ℕ × ℕ)) (work : L
                 (kept_then (kept_set work (id_slot w h x y) n (omega arith) (omega (arith, here_low))) (kept_set work₁ (node_slot w h n) (packed x y) (omega arith) (omega arith)));
           }
 
--- what `classify_corner` asks
-pub corner_asks : {s : Size} {ls : List ℕ} {a : Around} {work : List ℕ} {f : Found} {x y : ℕ}
-    → Map s ls → Corner s x y → a ≡ around_of (pic s ls) x y → Due (Listed s ls) ((x, y) ∷ []) (listing work f)
-    → Sides s × (Corner s x y × ((node_in a ≡ true → f.nodes < plane s.width s.height) × ((mask_in a ≡ 6 → f.bends < plane s.width s.height) × (5 * plane s.width s.height ≤ length work))))
-corner_asks {s} {ls} {work} {f} {x} {y} m at e d = (
-  record { wide = m.wide; high = m.high },
-  (
-    at,
-    (
-      λ b. node_low s ls d.o d.rest work f x y d.now (sym (node_in_lem (pic s ls) x y) ∙ ap node_in (sym e) ∙ b),
-      (
-        λ b. bend_low s ls d.o d.rest work f x y d.now (is_bend (pic s ls) x y (ap mask_in (sym e) ∙ b)),
-        d.now.planes,
-      ),
-    ),
-  ),
-)
+-- so there is room for one more of each
+module _ {s : Size} {ls : List ℕ} {a : Around} {work : List ℕ} {f : Found} {x y : ℕ} (e : a ≡ around_of (pic s ls) x y) (d : Due (Listed s ls) ((x, y) ∷ []) (listing work f)) where
+  pub node_room : node_in a ≡ true → f.nodes < plane s.width s.height
+  node_room b = node_low s ls d.o d.rest work f x y d.now (sym (node_in_lem (pic s ls) x y) ∙ ap node_in (sym e) ∙ b)
+
+  pub bend_room : mask_in a ≡ 6 → f.bends < plane s.width s.height
+  bend_room b = bend_low s ls d.o d.rest work f x y d.now (is_bend (pic s ls) x y (ap mask_in (sym e) ∙ b))
 
 -- ALL
 

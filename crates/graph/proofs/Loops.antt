@@ -7,14 +7,15 @@ use native.Mathlib.Numerals.{add-one}
 use lib.ListN.{length, get_or, drop, drop_of_length-le}
 use lib.Seq.{drop-cons}
 use Rattle.rules.specs.Lists.{flat, upto}
-use Rattle.rules.specs.Picture.{Picture, E, Dart, dart}
+use Rattle.rules.specs.Picture.{Picture, Dart, dart}
+use Rattle.rules.specs.declared.Dir.{Dir}
+use Rattle.rules.specs.declared.Dir.TheVariants.{N, E, S, W}
 use Rattle.rules.proofs.Tracing.Bends.{easts}
 use Rattle.graph.specs.Nodes.{bends}
-use Rattle.rules.specs.Graph.{row, rows, corners, nodes, out}
+use Rattle.rules.specs.Graph.{row, rows, corners, out}
 use Rattle.rules.proofs.Ground.Lists.{flat_singles, length_upto, at_upto}
 use Rattle.lattice.specs.declared.Size.{Size}
-use Rattle.lattice.specs.Dirs.{dir}
-use Rattle.lattice.proofs.Ways.{by_four}
+use Rattle.graph.specs.Stage.{starts}
 use Rattle.graph.specs.Todo.{Due, Does}
 
 -- all that there is to do, by what there is to do at each item
@@ -72,19 +73,10 @@ row_at n x y h = let e : 0 + x ≡ x = omega arith in rw e at (row_from n 0 y x 
 pub number_at : (n i : ℕ) → i < n → get_or (upto n 0) i 0 ≡ i
 number_at n i h = at_upto n 0 i 0 h ∙ omega arith
 
-pub dart_at : (x y d : ℕ) (z : Dart) → d < 4 → get_or (out ((x, y) ∷ [])) d z ≡ dart x y (dir d)
-unfolding out
-dart_at x y d z = by_four (λ d. get_or (out ((x, y) ∷ [])) d z ≡ dart x y (dir d)) refl refl refl refl d
-
 pub rows_flat : (m n y : ℕ) → rows m n y ≡ flat (map (row m 0) (upto n y))
 unfolding rows upto flat
 rows_flat m zero y = refl
 rows_flat m (suc n) y = ap (λ (l : List (ℕ × ℕ)). row m 0 y ++ l) (rows_flat m n (suc y))
-
-pub out_flat : (cs : List (ℕ × ℕ)) → out cs ≡ flat (map (λ c. out (c ∷ [])) cs)
-unfolding out flat
-out_flat [] = refl
-out_flat (c ∷ cs) = ap (λ (l : List Dart). out (c ∷ []) ++ l) (out_flat cs)
 
 -- THE COURSES of classify and trace
 
@@ -104,44 +96,41 @@ module _ (s : Size) where
     is = rows_flat (suc s.width) (suc s.height) 0;
   }
 
--- the four ways out of a corner
-abbrev pub ways_of : ℕ → ℕ → Course Dart Dart
-ways_of x y = singly (out ((x, y) ∷ []))
-
--- those of each node
-abbrev pub ways_of_nodes : Picture → Course (ℕ × ℕ) Dart
-ways_of_nodes P = record { items = nodes P; each = λ c. out (c ∷ []); whole = out (nodes P); is = out_flat (nodes P) }
-
--- the way E of each bend
-easts_flat : (cs : List (ℕ × ℕ)) → map (λ c. dart c.0 c.1 E) cs ≡ flat (map (λ c. dart c.0 c.1 E ∷ []) cs)
+-- the ways out of a corner, and those out of each of some corners
+pub ways_are : (c : ℕ × ℕ) (ways : List Dir) → map (dart c.0 c.1) ways ≡ flat (map (λ d. dart c.0 c.1 d ∷ []) ways)
 unfolding flat
-easts_flat [] = refl
-easts_flat (c ∷ cs) = ap (λ (l : List Dart). dart c.0 c.1 E ∷ l) (easts_flat cs)
+ways_are c [] = refl
+ways_are c (d ∷ ways) = ap (λ (l : List Dart). dart c.0 c.1 d ∷ l) (ways_are c ways)
 
-pub easts_are : (P : Picture) → easts P (corners P) ≡ flat (map (λ c. dart c.0 c.1 E ∷ []) (bends P))
-unfolding easts
-easts_are P = easts_flat (bends P)
+abbrev pub ways_of : ℕ → ℕ → List Dir → Course Dir Dart
+ways_of x y ways = record { items = ways; each = λ d. dart x y d ∷ []; whole = map (dart x y) ways; is = ways_are (x, y) ways }
 
-abbrev pub easts_of_bends : Picture → Course (ℕ × ℕ) Dart
-easts_of_bends P = record { items = bends P; each = λ c. dart c.0 c.1 E ∷ []; whole = easts P (corners P); is = easts_are P }
+abbrev pub starts_of : List (ℕ × ℕ) → List Dir → Course (ℕ × ℕ) Dart
+starts_of cs ways = record { items = cs; each = λ c. map (dart c.0 c.1) ways; whole = starts cs ways; is = refl }
+
+-- all of them, and the way E of each
+pub starts_all : (cs : List (ℕ × ℕ)) → starts cs (N ∷ E ∷ S ∷ W ∷ []) ≡ out cs
+unfolding out flat
+starts_all [] = refl
+starts_all (c ∷ cs) = ap (λ (l : List Dart). map (dart c.0 c.1) (N ∷ E ∷ S ∷ W ∷ []) ++ l) (starts_all cs)
+
+pub starts_east : (P : Picture) → starts (bends P) (E ∷ []) ≡ easts P (corners P)
+unfolding easts flat
+starts_east P = go (bends P)
+  where
+    go : (cs : List (ℕ × ℕ)) → starts cs (E ∷ []) ≡ map (λ c. dart c.0 c.1 E) cs
+    go [] = refl
+    go (c ∷ cs) = ap (λ (l : List Dart). dart c.0 c.1 E ∷ l) (go cs)
 
 -- where a row ends, and where the rows end
-pub row_over : (w x y : ℕ) → w < x → length (row (suc w) 0 y) ≤ x
+pub row_over : (w x y : ℕ) → w + 1 ≤ x → length (row (suc w) 0 y) ≤ x
 row_over w x y h = omega (arith, length_row (suc w) 0 y)
 
-pub rows_over : (h y : ℕ) → h < y → length (upto (suc h) 0) ≤ y
+pub rows_over : (h y : ℕ) → h + 1 ≤ y → length (upto (suc h) 0) ≤ y
 rows_over h y k = omega (arith, length_upto (suc h) 0)
 
-pub row_under : (w x y : ℕ) → x ≤ w → x < length (row (suc w) 0 y)
+pub row_under : (w x y : ℕ) → x < w + 1 → x < length (row (suc w) 0 y)
 row_under w x y h = omega (arith, length_row (suc w) 0 y)
 
-pub rows_under : (h y : ℕ) → y ≤ h → y < length (upto (suc h) 0)
+pub rows_under : (h y : ℕ) → y < h + 1 → y < length (upto (suc h) 0)
 rows_under h y k = omega (arith, length_upto (suc h) 0)
-
-pub ways_under : (x y d : ℕ) → d < 4 → d < length (out ((x, y) ∷ []))
-unfolding out
-ways_under x y d h = h
-
-pub ways_over : (x y d : ℕ) → 4 ≤ d → length (out ((x, y) ∷ [])) ≤ d
-unfolding out
-ways_over x y d h = h

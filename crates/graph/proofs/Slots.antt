@@ -1,5 +1,5 @@
 -- The words of the planes: each corner and each edge has its own.
-use Prim.Native.Nat.{ℕ, suc, pred, ◌+◌, ◌*◌, ◌-◌, ◌≤◌, ◌<◌}
+use Prim.Native.Nat.{ℕ, suc, pred, ◌+◌, ◌*◌, ◌≤◌, ◌<◌}
 use mathlib.Core.Path.{◌≡◌, refl, sym, ap, ◌∙◌}
 use mathlib.Core.Bool.{Bool, true, false, ◌||◌, false≢true, or_comm}
 use mathlib.Core.Logic.{◌⊎◌, inl, inr, ⊎_elim}
@@ -7,11 +7,12 @@ use mathlib.Core.List.Memᴰ.{head as here}
 use mathlib.Core.List.Memᴰ.{tail as there}
 use mathlib.Core.List.{List, [], ◌∷◌, ◌++◌, Memᴰ as In}
 use native.Mathlib.Omega.{arith}
-use native.Mathlib.Numerals.{sub-one}
 use borrow.Author.Tests.{eq-eqb}
 use lib.ListN.{length, get_or, set, length-set}
 use lib.Seq.{get_or-set_same, get_or-set_other}
-use Rattle.rules.specs.Picture.{picture, crack, Dir, N, E, S, W, Dart, dart, same_dart, turned, to_x, to_y, back_of}
+use Rattle.rules.specs.Picture.{picture, crack, Dart, dart, same_dart, turned, to_x, to_y, back_of}
+use Rattle.rules.specs.declared.Dir.{Dir}
+use Rattle.rules.specs.declared.Dir.TheVariants.{N, E, S, W}
 use Rattle.rules.specs.Graph.{on}
 use Rattle.rules.proofs.Lattice.Frame.{Framed}
 use Rattle.rules.proofs.Lattice.Darts.{same_path, crack_x, crack_y}
@@ -21,24 +22,6 @@ use Rattle.lattice.proofs.Planes.{place_low, place_one}
 use Rattle.lattice.proofs.Frame.{north, east, south, west, framed}
 use Rattle.lattice.specs.Planes.{plane, place}
 use Rattle.graph.specs.Planes.{slot_at, slot, marked, mark_all, Inside}
-
-module _ (w h x y p r : ℕ) (e : p ≡ plane w h) where
-  pub slot_N : 0 < y → r ≡ place w x (y - 1) → p + r ≡ slot_at w h x y N
-  unfolding slot_at
-  slot_N z f = rw (e, f, sub-one)
-
-  pub slot_S : r ≡ place w x y → p + r ≡ slot_at w h x y S
-  unfolding slot_at
-  slot_S f = rw (e, f)
-
-module _ (w h x y r : ℕ) where
-  pub slot_E : r ≡ place w x y → r ≡ slot_at w h x y E
-  unfolding slot_at
-  slot_E f = f
-
-  pub slot_W : 0 < x → r ≡ place w (x - 1) y → r ≡ slot_at w h x y W
-  unfolding slot_at
-  slot_W z f = rw (f, sub-one)
 
 -- PLACES: two corners with one number are one corner
 module _ (w h : ℕ) where

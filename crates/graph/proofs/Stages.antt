@@ -1,5 +1,5 @@
 -- One segment more.
-use Prim.Native.Nat.{ℕ, suc, ◌+◌, ◌*◌, ◌<◌, ◌≤◌, ◌%◌}
+use Prim.Native.Nat.{ℕ, suc, ◌+◌, ◌*◌, ◌<◌, ◌≤◌}
 use mathlib.Core.Path.{◌≡◌, refl, sym, ap, ap₂, subst, ◌∙◌}
 use mathlib.Core.Bool.{Bool, true, false, cond, not, ◌&&◌, ◌||◌, true≢false, false≢true, or_comm}
 use mathlib.Core.Logic.{◌⊎◌, inl, inr, ⊎_elim}
@@ -7,8 +7,9 @@ use mathlib.Core.List.{List, [], ◌∷◌, ◌++◌, append_assoc, append-nil, 
 use native.Mathlib.Omega.{arith}
 use native.Mathlib.Nat.{mul-le-mul, mul_assoc}
 use lib.ListN.{length, get_or, set, length-set, length-append}
+use Rattle.std.specs.Prelude.{Option}
 use Rattle.rules.specs.Lists.{flat, last_of}
-use Rattle.rules.specs.Picture.{Picture, picture, Dir, N, E, S, W, code, right_of, back_of, Dart, turned, left, right, crack, node, ahead_x, ahead_y}
+use Rattle.rules.specs.Picture.{Picture, picture, code, right_of, Dart, turned, left, right, crack, node, ahead_x, ahead_y}
 use Rattle.rules.specs.Graph.{walk, fuel, meets, on, visit, trace, nodes, segments, cracks}
 use Rattle.rules.specs.Face.{no_dart}
 use Rattle.rules.specs.Records.{NONE, node_at, segment_words}
@@ -26,16 +27,15 @@ use Rattle.lattice.specs.declared.Walker.{Walker}
 use Rattle.lattice.specs.declared.RegionId.{RegionId}
 use Rattle.lattice.specs.Size.{Map, Corner, pic}
 use Rattle.lattice.specs.Around.{around_of, left_in, node_in}
-use Rattle.lattice.specs.Dirs.{dir}
 use Rattle.lattice.specs.Walker.{dart_of}
-use Rattle.lattice.proofs.Ways.{code_dir, left_in_lem, right_in, node_in_lem}
+use Rattle.lattice.proofs.Ways.{left_in_lem, right_in, node_in_lem}
 use Rattle.lattice.proofs.Frame.{framed}
 use Rattle.graph.specs.declared.Walked.{Walked}
 use Rattle.graph.specs.declared.Joined.{Joined}
 use Rattle.lattice.specs.Planes.{plane}
 use Rattle.graph.specs.Planes.{id_slot, marked, mark_all, Inside}
 use Rattle.graph.specs.Walk.{steps_of, end_of, Starts}
-use Rattle.graph.specs.Words.{id_at, Linked, entry_slot, entered, entries}
+use Rattle.graph.specs.Words.{start_word, end_word, arrives_word, id_at, Linked, entry_slot, entered, entries}
 use Rattle.graph.proofs.Growing.{length_marks}
 use Rattle.graph.proofs.Slots.{marked_all_lem, unmarked, on_append}
 use Rattle.graph.proofs.Along.{steps_inside}
@@ -116,12 +116,6 @@ length_entries P l i (s ∷ ss) = length_entries P (entered P l i s) (suc i) ss 
 
 -- THE SEGMENT THAT STARTS WITH THE DART OF w
 
-back_code : (d : Dir) → (code d + 2) % 4 ≡ code (back_of d)
-back_code N = refl
-back_code E = refl
-back_code S = refl
-back_code W = refl
-
 module _ (s : Size) (ls : List ℕ) (w : Walker) (h : Starts s ls w) where
   abbrev P : Picture
   P = pic s ls
@@ -178,12 +172,12 @@ module _ (s : Size) (ls : List ℕ) (w : Walker) (h : Starts s ls w) where
         ∙ ap (on b) (sym (flat_snoc ss l))
 
   -- the record, by whether it starts at a node
-  module _ (a : Around) (around : a ≡ around_of P w.x w.y) (work' nodes₁ nodes₂ : List ℕ) (i n : ℕ) (e : Walked) (j : Joined)
+  module _ (a : Around) (around : a ≡ around_of P w.x w.y) (work' nodes₁ nodes₂ : List ℕ) (i n : ℕ) (e : Walked) (j : Option Joined)
       (ids : (x y : ℕ) → Corner s x y → node P x y ≡ true → get_or work' (id_slot s.width s.height x y) 0 ≡ node_at (nodes P) 0 x y)
       (corner : Corner s w.x w.y)
-      (ex : e.x ≡ ahead_x (end_of (steps_of s ls w)))
-      (ey : e.y ≡ ahead_y (end_of (steps_of s ls w)))
-      (ed : e.d ≡ code (end_of (steps_of s ls w)).d)
+      (ex : e.to.x ≡ ahead_x (end_of (steps_of s ls w)))
+      (ey : e.to.y ≡ ahead_y (end_of (steps_of s ls w)))
+      (ed : e.to.d ≡ (end_of (steps_of s ls w)).d)
       (k : Linked s a work' nodes₁ n w e nodes₂ j) (among : In (steps_of s ls w) (segments P)) where
     abbrev z : Dart
     z = end_of (steps_of s ls w)
@@ -192,12 +186,12 @@ module _ (s : Size) (ls : List ℕ) (w : Walker) (h : Starts s ls w) where
     node_is = ap node_in around ∙ node_in_lem P w.x w.y
 
     pub record Made : Type 0 where
-      pub start : j.start.0 ≡ node_at (nodes P) 0 w.x w.y
-      pub end : j.end.0 ≡ node_at (nodes P) 0 (ahead_x z) (ahead_y z)
-      pub last : j.last ≡ cond (node P w.x w.y) (code z.d) 0
+      pub start : start_word j ≡ node_at (nodes P) 0 w.x w.y
+      pub end : end_word j ≡ node_at (nodes P) 0 (ahead_x z) (ahead_y z)
+      pub arrives : arrives_word j ≡ cond (node P w.x w.y) (code z.d) 0
       pub outs : nodes₂ ≡ entered P nodes₁ n (steps_of s ls w)
 
-    end_id : meets P z ≡ true → id_at s work' e.x e.y ≡ node_at (nodes P) 0 (ahead_x z) (ahead_y z)
+    end_id : meets P z ≡ true → id_at s work' e.to.x e.to.y ≡ node_at (nodes P) 0 (ahead_x z) (ahead_y z)
     unfolding meets
     end_id o = rw (ex, ey) (ids (ahead_x z) (ahead_y z) end_corner o)
 
@@ -207,12 +201,11 @@ module _ (s : Size) (ls : List ℕ) (w : Walker) (h : Starts s ls w) where
         let t : node_in a ≡ true = node_is ∙ b in
         let u = ids w.x w.y corner b in
         let v = end_id o in
-        let q : (e.d + 2) % 4 ≡ code (back_of z.d) = ap (λ (d : ℕ). (d + 2) % 4) ed ∙ back_code z.d in
         record {
           start = k.start ∙ rw t u;
           end = k.end ∙ rw t v;
-          last = k.last ∙ rw (t, b) ed;
-          outs = k.entered ∙ rw (t, first_is, b) (rw (u, v, q, code_dir w.d h.way));
+          arrives = k.arrives ∙ rw (t, b, ed);
+          outs = k.entered ∙ rw (t, first_is, b) (rw (u, v, ed));
         }
 
     from_ring : node P w.x w.y ≡ false → Ring P (dart_of w) z → Made
@@ -222,7 +215,7 @@ module _ (s : Size) (ls : List ℕ) (w : Walker) (h : Starts s ls w) where
         record {
           start = k.start ∙ rw t (sym (no_number w.x w.y b));
           end = k.end ∙ rw t (sym (ap₂ (node_at (nodes P) 0) o.1 o.2 ∙ no_number w.x w.y b));
-          last = k.last ∙ rw (t, b);
+          arrives = k.arrives ∙ rw (t, b);
           outs = k.entered ∙ rw (t, first_is, b);
         }
 
@@ -233,11 +226,11 @@ module _ (s : Size) (ls : List ℕ) (w : Walker) (h : Starts s ls w) where
         go (inl o) = from_node o.0 o.1
         go (inr o) = from_ring o.0 o
 
-    pub record_made : (l r : RegionId) → l.0 ≡ left_in a (dir w.d) → r.0 ≡ left_in a (right_of (dir w.d)) → (c : ℕ) → c ≡ suc (length (steps_of s ls w))
-        → segment_words P i (steps_of s ls w ∷ []) ≡ i ∷ c ∷ j.start.0 ∷ j.end.0 ∷ l.0 ∷ r.0 ∷ w.d ∷ j.last ∷ []
+    pub record_made : (l r : RegionId) → l.0 ≡ left_in a w.d → r.0 ≡ left_in a (right_of w.d) → (c : ℕ) → c ≡ suc (length (steps_of s ls w))
+        → segment_words P i (steps_of s ls w ∷ []) ≡ i ∷ c ∷ start_word j ∷ end_word j ∷ l.0 ∷ r.0 ∷ code w.d ∷ arrives_word j ∷ []
     unfolding segment_words
     record_made l r lp rp c cp =
         let m = made in
-        let le : l.0 ≡ left P (dart_of w) = lp ∙ rw around (left_in_lem P w.x w.y (dir w.d)) in
-        let re : r.0 ≡ right P (dart_of w) = rp ∙ rw around (right_in P w.x w.y (dir w.d)) in
-        rw (first_is, cp, m.start, m.end, m.last, le, re, code_dir w.d h.way)
+        let le : l.0 ≡ left P (dart_of w) = lp ∙ rw around (left_in_lem P w.x w.y w.d) in
+        let re : r.0 ≡ right P (dart_of w) = rp ∙ rw around (right_in P w.x w.y w.d) in
+        rw (first_is, cp, m.start, m.end, m.arrives, le, re)

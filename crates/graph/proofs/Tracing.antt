@@ -5,20 +5,21 @@ use mathlib.Core.Bool.{Bool, true, false, not, ◌&&◌}
 use mathlib.Core.List.Memᴰ.{append_left as in_left}
 use mathlib.Core.List.Memᴰ.{append_right as in_right}
 use mathlib.Core.List.Memᴰ.{head as here}
-use mathlib.Core.List.{List, [], ◌∷◌, ◌++◌, Memᴰ as In}
+use mathlib.Core.List.{List, [], ◌∷◌, ◌++◌, map, Memᴰ as In}
+use mathlib.Core.Logic.{inr}
 use native.Mathlib.Omega.{arith}
 use lib.ListN.{length, get_or, length-append}
 use lib.Seq.{sets}
+use Rattle.std.specs.Prelude.{Option}
 use Rattle.rules.specs.Lists.{flat}
-use Rattle.rules.specs.Picture.{Picture, picture, right_of, Dart, crack}
-use Rattle.rules.specs.Graph.{on, trace, corners, segments}
+use Rattle.rules.specs.Picture.{Picture, code, right_of, Dart, dart, crack}
+use Rattle.rules.specs.declared.Dir.{Dir}
+use Rattle.rules.specs.Graph.{on, trace, segments}
 use Rattle.rules.specs.Records.{point_words, point_records, segment_words}
 use Rattle.rules.proofs.Ground.Booleans.{both}
-use Rattle.rules.proofs.Ground.Lists.{flat_snoc, in_at, keep_in}
+use Rattle.rules.proofs.Ground.Lists.{flat_snoc}
 use Rattle.rules.proofs.Tracing.Walks.{the_walk}
 use Rattle.rules.proofs.CutList.Lengths.{length_segments}
-use Rattle.rules.proofs.Lattice.Grid.{corners_in}
-use Rattle.rules.proofs.Tracing.Bends.{bend}
 use Rattle.store.specs.Words.{Kept}
 use Rattle.store.proofs.Writes.{sets_more, kept_then}
 use Rattle.lattice.specs.declared.Size.{Size}
@@ -28,32 +29,29 @@ use Rattle.lattice.specs.declared.RegionId.{RegionId}
 use Rattle.lattice.specs.Size.{Corner, pic}
 use Rattle.lattice.specs.Planes.{plane}
 use Rattle.lattice.specs.Around.{around_of, left_in, crack_in}
-use Rattle.lattice.specs.Dirs.{dir}
 use Rattle.lattice.specs.Walker.{dart_of}
-use Rattle.lattice.proofs.Ways.{crack_in_lem, code_small}
+use Rattle.lattice.proofs.Ways.{crack_in_lem}
 use Rattle.lattice.proofs.Frame.{framed}
 use Rattle.graph.specs.declared.Counts.{Counts}
-use Rattle.graph.specs.declared.Found.{Found}
 use Rattle.graph.specs.declared.Walked.{Walked}
 use Rattle.graph.specs.declared.Joined.{Joined}
 use Rattle.graph.specs.Planes.{marked, unpacked, corners_at}
-use Rattle.graph.specs.Walk.{steps_of, reached, end_of, Starts, Went}
-use Rattle.graph.specs.Words.{Ended, Linked}
+use Rattle.graph.specs.Walk.{steps_of, reached, Starts, Went}
+use Rattle.graph.specs.Words.{start_word, end_word, arrives_word, Ended, Linked}
 use Rattle.graph.specs.Todo.{Due, Does}
-use Rattle.graph.specs.Nodes.{Noded, Tallied}
-use Rattle.graph.specs.Stage.{State, state, Stage}
+use Rattle.graph.specs.Nodes.{Noded}
+use Rattle.graph.specs.Stage.{State, state, Stage, Standing, starts}
 use Rattle.graph.proofs.Growing.{length_reached, length_more, points_more, segments_more}
 use Rattle.graph.proofs.Slots.{crack_inside}
 use Rattle.graph.proofs.Along.{walk_points}
-use Rattle.graph.proofs.Numbering.{nodes_in_lem, nodes_few}
-use Rattle.graph.proofs.Listing.{bends_few, corner_nth, noded_kept}
-use Rattle.graph.proofs.Loops.{Course, Through, due, goes, ways_of_nodes, easts_of_bends}
+use Rattle.graph.proofs.Listing.{length_corners, corner_nth, noded_kept}
+use Rattle.graph.proofs.Loops.{Through, due, goes, starts_of}
 use Rattle.graph.proofs.Stages.{visit_old, visit_new, trace_adds, few, entries_more, end_corner, marks_kept, seen_more, made, record_made}
 
 -- ONE SEGMENT MORE
 
 abbrev pub counted : Counts → ℕ → Counts
-counted c n = record { nodes = c.nodes; bends = c.bends; segments = c.segments + 1; points = c.points + n + 1; steps = c.steps + n }
+counted c n = record { nodes = c.nodes; bends = c.bends; segments = c.segments + 1; points = c.points + (n + 1); steps = c.steps + n }
 
 module _ (s : Size) (ls : List ℕ) (o : State) (todo : List Dart) (work nodes₁ segs points : List ℕ) (c : Counts) (w : Walker) (st : Stage s ls o (dart_of w ∷ todo) (state work nodes₁ segs points c)) where
   -- a dart that starts nothing
@@ -139,8 +137,6 @@ module _ (s : Size) (ls : List ℕ) (o : State) (todo : List Dart) (work nodes�
             low = omega (arith, (fits e.steps went.count).few_segments);
             from = corner;
             to = rw (went.x, went.y) (end_corner s ls w h);
-            leaves = h.way;
-            arrives = rw went.d (code_small (end_of (steps_of s ls w)).d);
           }
 
       points_of_lem : point_records (steps_of s ls w) ≡ w.x ∷ w.y ∷ reached (steps_of s ls w)
@@ -154,9 +150,9 @@ module _ (s : Size) (ls : List ℕ) (o : State) (todo : List Dart) (work nodes�
       points_all : point_words (st.ss ++ (steps_of s ls w ∷ [])) ≡ point_words st.ss ++ (w.x ∷ w.y ∷ reached (steps_of s ls w))
       points_all = points_more st.ss (steps_of s ls w) ∙ ap (λ (k : List ℕ). point_words st.ss ++ k) points_of_lem
 
-      module _ (a : Around) (around : a ≡ around_of (pic s ls) w.x w.y) (nodes₂ segs' : List ℕ) (j : Joined) (linked : Linked s a work' nodes₁ c.segments w e nodes₂ j)
-          (l r : RegionId) (lp : l.0 ≡ left_in a (dir w.d)) (rp : r.0 ≡ left_in a (right_of (dir w.d)))
-          (recorded : segs' ≡ sets segs (8 * c.segments) (c.points ∷ (e.steps + 1) ∷ j.start.0 ∷ j.end.0 ∷ l.0 ∷ r.0 ∷ w.d ∷ j.last ∷ [])) where
+      module _ (a : Around) (around : a ≡ around_of (pic s ls) w.x w.y) (nodes₂ segs' : List ℕ) (j : Option Joined) (linked : Linked s a work' nodes₁ c.segments w e nodes₂ j)
+          (l r : RegionId) (lp : l.0 ≡ left_in a w.d) (rp : r.0 ≡ left_in a (right_of w.d))
+          (recorded : segs' ≡ sets segs (8 * c.segments) (c.points ∷ (e.steps + 1) ∷ start_word j ∷ end_word j ∷ l.0 ∷ r.0 ∷ code w.d ∷ arrives_word j ∷ [])) where
         pub one_segment : Stage s ls o todo (state work' nodes₂ segs' points' (counted c e.steps))
         one_segment =
             let P = pic s ls in
@@ -172,7 +168,7 @@ module _ (s : Size) (ls : List ℕ) (o : State) (todo : List Dart) (work nodes�
               noded = noded_now;
               kept = kept_then st.kept marked_now;
               outs = m.outs ∙ rw (st.outs, z) (sym (entries_more P o.nodes 0 st.ss k));
-              records = sets_more o.segments segs segs' (8 * c.segments) (segment_words P 0 st.ss) (c.points ∷ (e.steps + 1) ∷ j.start.0 ∷ j.end.0 ∷ l.0 ∷ r.0 ∷ w.d ∷ j.last ∷ []) (segment_words P 0 (st.ss ++ (k ∷ []))) st.records (omega (arith, length_segments P 0 st.ss, st.segs)) (segments_more P 0 st.ss k ∙ rw (← i) (ap (λ (v : List ℕ). segment_words P 0 st.ss ++ v) rec)) recorded;
+              records = sets_more o.segments segs segs' (8 * c.segments) (segment_words P 0 st.ss) (c.points ∷ (e.steps + 1) ∷ start_word j ∷ end_word j ∷ l.0 ∷ r.0 ∷ code w.d ∷ arrives_word j ∷ []) (segment_words P 0 (st.ss ++ (k ∷ []))) st.records (omega (arith, length_segments P 0 st.ss, st.segs)) (segments_more P 0 st.ss k ∙ rw (← i) (ap (λ (v : List ℕ). segment_words P 0 st.ss ++ v) rec)) recorded;
               corners = sets_more o.points points points' (2 * c.points) (point_words st.ss) (w.x ∷ w.y ∷ reached k) (point_words (st.ss ++ (k ∷ []))) st.corners (sym st.words) points_all points_behind;
               words = omega (arith, ap length points_all, length-append (point_words st.ss) (w.x ∷ w.y ∷ reached k), length_reached k, st.words, went.count);
               tallied = st.tallied;
@@ -181,71 +177,39 @@ module _ (s : Size) (ls : List ℕ) (o : State) (todo : List Dart) (work nodes�
               steps = omega (arith, flat_length, st.steps, went.count);
             }
 
-pub around_crack : (P : Picture) (a : Around) (w : Walker) → a ≡ around_of P w.x w.y → crack_in a (dir w.d) ≡ crack P (dart_of w)
-around_crack P a w e = ap (λ (a : Around). crack_in a (dir w.d)) e ∙ crack_in_lem P w.x w.y (dir w.d)
+-- so the counts fit, as the code asks
+pub count_room : {s : Size} {ls work nodes₁ segs points : List ℕ} {c : Counts} {w : Walker} {n : ℕ}
+    → Due (Stage s ls) (dart_of w ∷ []) (state work nodes₁ segs points c) → Starts s ls w → marked s.width s.height work (dart_of w) ≡ false → n ≡ length (steps_of s ls w)
+    → (c.segments + 1 ≤ 536903680) × ((c.steps + n ≤ 536903680) × (c.points + n + 1 ≤ 1073807360))
+count_room d h fresh e = let f = fits _ _ d.o d.rest _ _ _ _ _ _ d.now h fresh _ e in (f.few_segments, (f.few_steps, f.few_points))
 
--- lengths stay over several calls
-pub record Same (t t' : State) : Type 0 where
-  pub work : length t'.work ≡ length t.work
-  pub nodes : length t'.nodes ≡ length t.nodes
-  pub segments : length t'.segments ≡ length t.segments
-  pub points : length t'.points ≡ length t.points
+pub around_crack : (P : Picture) (a : Around) (w : Walker) → a ≡ around_of P w.x w.y → crack_in a w.d ≡ crack P (dart_of w)
+around_crack P a w e = ap (λ (a : Around). crack_in a w.d) e ∙ crack_in_lem P w.x w.y w.d
 
-pub same_then : {t t' t'' : State} → Same t t' → Same t' t'' → Same t t''
-same_then a b = record { work = b.work ∙ a.work; nodes = b.nodes ∙ a.nodes; segments = b.segments ∙ a.segments; points = b.points ∙ a.points }
+-- A LOOP THROUGH CORNERS that stand in the work words
 
-pub same_none : {t : State} → Same t t
-same_none = record { work = refl; nodes = refl; segments = refl; points = refl }
+-- the words behind the marks stay
+stays : {s : Size} {ls : List ℕ} {o t t' : State} {todo todo' : List Dart} → Stage s ls o todo t → Stage s ls o todo' t' → (i : ℕ) → 2 * plane s.width s.height ≤ i → get_or t'.work i 0 ≡ get_or t.work i 0
+stays a b i p = b.kept.others i (inr p) ∙ sym (a.kept.others i (inr p))
 
--- A LOOP THROUGH A LIST OF CORNERS that stands in the work words from `at` on
+-- the pass i of the loop, from the state t on
+module _ {s : Size} {ls : List ℕ} {at n : ℕ} (ways : List Dir) (t₀ t : State) (S : Standing s t₀.work at n) (i : ℕ) (h : i < n)
+    (r : Through (starts_of (corners_at t₀.work at n) ways) (Stage s ls) t₀ t i) (d : Due (Stage s ls) (starts (corners_at t₀.work at n) ways) t₀)
+    (x y : ℕ) (ex : x ≡ (unpacked (get_or t.work (at + i) 0)).0) (ey : y ≡ (unpacked (get_or t.work (at + i) 0)).1) where
+  word_same : get_or t.work (at + i) 0 ≡ get_or t₀.work (at + i) 0
+  word_same = stays d.now (r d.o d.rest d.now) (at + i) (omega (arith, S.behind))
 
-pub record Standing (s : Size) (ls : List ℕ) (L : Course (ℕ × ℕ) Dart) (at last : ℕ) : Type 0 where
-  pub stands : (work : List ℕ) → Noded s ls work → corners_at work at (length L.items) ≡ L.items
-  pub inside : (c : ℕ × ℕ) → In c L.items → (c.0 ≤ s.width) × (c.1 ≤ s.height)
-  pub few : length L.items ≤ plane s.width s.height
-  pub room : at + plane s.width s.height ≤ 5 * plane s.width s.height
-  pub count : last ≡ length L.items
+  item_low : i < length (corners_at t₀.work at n)
+  item_low = omega (arith, length_corners t₀.work at n)
 
-module _ {s : Size} {ls : List ℕ} {f : Found} (k : Tallied s ls f) (at p : ℕ) (e : p ≡ plane s.width s.height) where
-  pub nodes_standing : at ≡ 3 * p → Standing s ls (ways_of_nodes (pic s ls)) at f.nodes
-  unfolding picture
-  nodes_standing q = record { stands = λ work o. rw (q, e) o.corners; inside = nodes_in_lem (pic s ls); few = nodes_few s ls; room = omega arith; count = k.nodes }
+  item_is : get_or (corners_at t₀.work at n) i (0, 0) ≡ (x, y)
+  item_is = corner_nth t₀.work at n i h ∙ ap unpacked (sym word_same) ∙ ap₂ (λ (a b : ℕ). (a, b)) (sym ex) (sym ey)
 
-  pub bends_standing : at ≡ 4 * p → Standing s ls (easts_of_bends (pic s ls)) at f.bends
-  unfolding picture
-  bends_standing q = record {
-    stands = λ work o. rw (q, e) o.bent_corners;
-    inside = λ c i. corners_in (pic s ls) c (keep_in (bend (pic s ls)) (corners (pic s ls)) c i).0;
-    few = bends_few s ls;
-    room = omega arith;
-    count = k.bends;
-  }
+  pub corner_here : Corner s x y
+  corner_here = rw (ex, ey, word_same) (S.inside i h)
 
--- the pass n of the loop, from the state t on
-module _ {s : Size} {ls : List ℕ} {L : Course (ℕ × ℕ) Dart} {at last : ℕ} (S : Standing s ls L at last) (t₀ t : State) (n : ℕ) (r : Through L (Stage s ls) t₀ t n) (h : n < last) (d : Due (Stage s ls) L.whole t₀) where
-  noded_here : Noded s ls t.work
-  noded_here = (r d.o d.rest d.now).noded
+  pub due_here : Due (Stage s ls) (map (dart x y) ways) t
+  due_here = due (starts_of (corners_at t₀.work at n) ways) (Stage s ls) (0, 0) (x, y) i item_low item_is t₀ t r d
 
-  pub word_in : at + n < length t.work
-  word_in = omega (arith, noded_here.planes, S.room, S.few, S.count)
-
-  module _ (x y : ℕ) (ex : x ≡ (unpacked (get_or t.work (at + n) 0)).0) (ey : y ≡ (unpacked (get_or t.work (at + n) 0)).1) where
-    item_low : n < length L.items
-    item_low = omega (arith, S.count)
-
-    item_is : get_or L.items n (0, 0) ≡ (x, y)
-    item_is =
-        ap (λ (l : List (ℕ × ℕ)). get_or l n (0, 0)) (sym (S.stands t.work noded_here))
-        ∙ corner_nth t.work at (length L.items) n item_low
-        ∙ ap₂ (λ (a b : ℕ). (a, b)) (sym ex) (sym ey)
-
-    pub corner_here : Corner s x y
-    corner_here =
-        let k = S.inside (x, y) (subst (λ (c : ℕ × ℕ). In c L.items) item_is (in_at L.items n (0, 0) item_low)) in
-        record { across = k.0; down = k.1 }
-
-    pub due_here : Due (Stage s ls) (L.each (x, y)) t
-    due_here = due L (Stage s ls) (0, 0) (x, y) n item_low item_is t₀ t r d
-
-    pub done_here : (t' : State) → Does (Stage s ls) (L.each (x, y)) t t' → Through L (Stage s ls) t₀ t' (n + 1)
-    done_here t' g = goes L (Stage s ls) (0, 0) (x, y) n item_low item_is t₀ t t' r g
+  pub done_here : (t' : State) → Does (Stage s ls) (map (dart x y) ways) t t' → Through (starts_of (corners_at t₀.work at n) ways) (Stage s ls) t₀ t' (i + 1)
+  done_here t' g = goes (starts_of (corners_at t₀.work at n) ways) (Stage s ls) (0, 0) (x, y) i item_low item_is t₀ t t' r g

@@ -1,32 +1,37 @@
 -- The first stage of tracing, and the last.
-use Prim.Native.Nat.{ℕ, ◌+◌, ◌*◌, ◌<◌}
-use mathlib.Core.Path.{◌≡◌, refl, sym, ap, ◌∙◌}
-use mathlib.Core.List.{List, [], ◌∷◌, ◌++◌, append-nil}
+use Prim.Native.Nat.{ℕ, ◌+◌, ◌*◌, ◌≤◌, ◌<◌}
+use mathlib.Core.Path.{◌≡◌, refl, sym, ap, subst, ◌∙◌}
+use mathlib.Core.List.{List, [], ◌∷◌, ◌++◌, append-nil, Memᴰ as In}
 use native.Mathlib.Omega.{arith}
 use lib.ListN.{length, get_or, replicate, length-replicate}
 use lib.Seq.{sets}
 use Rattle.rules.specs.Lists.{flat}
-use Rattle.rules.specs.Picture.{Picture, Dart}
+use Rattle.rules.specs.Picture.{Picture, picture, Dart}
 use Rattle.rules.specs.Graph.{on, trace, out, corners, nodes, segments}
 use Rattle.rules.specs.Records.{node_words, segment_words, point_words}
 use Rattle.rules.proofs.Tracing.Partition.{describes}
-use Rattle.rules.proofs.Tracing.Bends.{easts, rings_at_bends}
+use Rattle.rules.proofs.Tracing.Bends.{bend, easts, rings_at_bends}
 use Rattle.rules.proofs.Tracing.Counts.{step_count_lem}
 use Rattle.store.specs.Words.{Kept}
 use Rattle.store.proofs.Writes.{sets_kept, filled, kept_none, kept_then, kept_within}
 use Rattle.lattice.specs.declared.Size.{Size}
-use Rattle.lattice.specs.Size.{pic}
+use Rattle.lattice.specs.Size.{Corner, pic}
 use Rattle.lattice.specs.Planes.{plane}
 use Rattle.lattice.proofs.Frame.{framed}
 use Rattle.graph.specs.declared.Counts.{Counts}
 use Rattle.graph.specs.declared.Found.{Found}
-use Rattle.graph.specs.Planes.{slot, corners_at}
+use Rattle.graph.specs.Planes.{slot, unpacked, corners_at}
 use Rattle.graph.specs.Words.{entries}
-use Rattle.graph.specs.Nodes.{Noded, Tallied, Classified}
-use Rattle.graph.specs.Stage.{state, Stage}
+use Rattle.graph.specs.Nodes.{bends, Noded, Tallied, Classified}
+use Rattle.graph.specs.Stage.{State, state, Stage, Standing, starts}
 use Rattle.graph.specs.Extracted.{Extracted}
 use Rattle.graph.proofs.Slots.{slot_low}
-use Rattle.graph.proofs.Listing.{noded_kept}
+use Rattle.graph.proofs.Listing.{bends_few, corner_nth, noded_kept}
+use Rattle.graph.proofs.Loops.{starts_all, starts_east}
+use Rattle.graph.proofs.Numbering.{nodes_in_lem, nodes_few}
+use Rattle.rules.proofs.Ground.Lists.{in_at, keep_in}
+use Rattle.rules.proofs.Lattice.Grid.{corners_in}
+use Rattle.rules.specs.declared.Dir.TheVariants.{N, E, S, W}
 use Rattle.graph.proofs.Outs.{outs_written}
 
 -- WHAT IS TRACED: first from the nodes, then from all corners
@@ -50,6 +55,19 @@ module _ (s : Size) (ls : List ℕ) where
       ∙ ap (trace P (trace P [] (out (nodes P)))) (append-nil (easts P (corners P)))
       ∙ sym (rings_at_bends (framed s ls))
 
+  -- a list of corners of the frame, in the work words from `at` on
+  listed_standing : {work : List ℕ} (at n : ℕ) (cs : List (ℕ × ℕ)) → 5 * plane s.width s.height ≤ length work → 2 * plane s.width s.height ≤ at → at + length cs ≤ 5 * plane s.width s.height
+      → n ≡ length cs → corners_at work at (length cs) ≡ cs → ((c : ℕ × ℕ) → In c cs → (c.0 ≤ s.width) × (c.1 ≤ s.height)) → Standing s work at n
+  listed_standing {work} at n cs planes behind room count stands inside = record {
+    behind = behind;
+    room = omega arith;
+    inside = λ i h.
+        let l : i < length cs = omega arith in
+        let e : get_or cs i (0, 0) ≡ unpacked (get_or work (at + i) 0) = ap (λ (l : List (ℕ × ℕ)). get_or l i (0, 0)) (sym stands) ∙ corner_nth work at (length cs) i l in
+        let k = inside (get_or cs i (0, 0)) (in_at cs i (0, 0) l) in
+        subst (λ (c : ℕ × ℕ). Corner s c.0 c.1) e (record { across = k.0; down = k.1 });
+  }
+
   module _ (work work₁ : List ℕ) (f : Found) (p : ℕ) (o : Noded s ls work) (k : Tallied s ls f) (e : p ≡ plane s.width s.height) (c : work₁ ≡ sets work 0 (replicate (2 * p) 0)) where
     -- the marks are cleared, and nothing else
     cleared : (i : ℕ) → i < 2 * plane s.width s.height → get_or work₁ i 0 ≡ 0
@@ -67,15 +85,34 @@ module _ (s : Size) (ls : List ℕ) where
     pub node_records : (nodes₀ nodes₁ : List ℕ) → nodes₁ ≡ sets nodes₀ 0 (node_words [] (corners_at work₁ (3 * p) f.nodes)) → nodes₁ ≡ sets nodes₀ 0 (node_words [] (nodes P))
     node_records nodes₀ nodes₁ q = q ∙ rw (e, k.nodes) (rw noded_cleared.corners)
 
+    -- the corners of the nodes, and later those of the bends, as the loops ask
+    pub nodes_standing : Standing s work₁ (3 * p) f.nodes
+    unfolding picture
+    nodes_standing = listed_standing (3 * p) f.nodes (nodes P) noded_cleared.planes (omega arith) (omega (arith, nodes_few s ls)) k.nodes (rw e noded_cleared.corners) (nodes_in_lem P)
+
+    nodes_start : starts (corners_at work₁ (3 * p) f.nodes) (N ∷ E ∷ S ∷ W ∷ []) ≡ out (nodes P)
+    nodes_start = rw (e, k.nodes, noded_cleared.corners) (starts_all (nodes P))
+
+    module _ (work₂ : List ℕ) (o₂ : Noded s ls work₂) where
+      pub bends_standing : Standing s work₂ (4 * p) f.bends
+      unfolding picture
+      bends_standing = listed_standing (4 * p) f.bends (bends P) o₂.planes (omega arith) (omega (arith, bends_few s ls)) k.bends (rw e o₂.bent_corners) (λ c i. corners_in P c (keep_in (bend P) (corners P) c i).0)
+
+      bends_start : starts (corners_at work₂ (4 * p) f.bends) (E ∷ []) ≡ easts P (corners P)
+      bends_start = rw (e, k.bends, o₂.bent_corners) (starts_east P)
+
+      pub second_stage : {t₀ t : State} → Stage s ls t₀ second t → Stage s ls t₀ (starts (corners_at work₂ (4 * p) f.bends) (E ∷ []) ++ []) t
+      second_stage st = rw bends_start st
+
     abbrev pub zeros : Counts
     zeros = record { nodes = f.nodes; bends = f.bends; segments = 0; points = 0; steps = 0 }
 
     module _ (nodes₁ segs points : List ℕ) where
-      pub first_stage : Stage s ls (state work₁ nodes₁ segs points zeros) (out (nodes P) ++ second) (state work₁ nodes₁ segs points zeros)
+      pub first_stage : Stage s ls (state work₁ nodes₁ segs points zeros) (starts (corners_at work₁ (3 * p) f.nodes) (N ∷ E ∷ S ∷ W ∷ []) ++ second) (state work₁ nodes₁ segs points zeros)
       unfolding flat on entries segment_words point_words
       first_stage = record {
         ss = [];
-        whole = traced;
+        whole = rw nodes_start traced;
         seen = λ b i. rw (cleared (slot s.width s.height b) (slot_low s.width s.height b i));
         noded = noded_cleared;
         kept = kept_none;

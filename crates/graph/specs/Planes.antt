@@ -2,7 +2,9 @@
 -- corners of nodes and of bends, by number.
 use Rattle.std.specs.Prelude.{ℕ, pred, ◌+◌, ◌*◌, ◌/◌, ◌%◌, ◌≤◌, ◌<◌, Bool, not, ◌≡◌, List, [], ◌∷◌, map, eqb, get_or, set}
 use Rattle.rules.specs.Lists.{upto}
-use Rattle.rules.specs.Picture.{Dir, N, E, S, W, Dart}
+use Rattle.rules.specs.Picture.{Dart}
+use Rattle.rules.specs.declared.Dir.{Dir}
+use Rattle.rules.specs.declared.Dir.TheVariants.{N, E, S, W}
 use Rattle.lattice.specs.Planes.{plane, place}
 
 -- MARKS

@@ -1,6 +1,6 @@
 -- The words of records, and the out entries that segments write.
-use Rattle.std.specs.Prelude.{ℕ, suc, ◌+◌, ◌*◌, ◌<◌, ◌≤◌, ◌%◌, cond, ◌≡◌, List, [], ◌∷◌, length, get_or, set}
-use Rattle.rules.specs.Picture.{Picture, Dart, code, turned, node}
+use Rattle.std.specs.Prelude.{ℕ, suc, ◌+◌, ◌*◌, ◌≤◌, cond, ◌≡◌, List, [], ◌∷◌, length, get_or, set, Option, Some, None}
+use Rattle.rules.specs.Picture.{Picture, Dart, code, back_of, turned, node}
 use Rattle.rules.specs.Graph.{nodes}
 use Rattle.rules.specs.Face.{no_dart}
 use Rattle.rules.specs.Records.{NONE, node_at}
@@ -20,8 +20,21 @@ use Rattle.graph.specs.Walk.{end_of}
 abbrev pub node_word : ℕ → ℕ → List ℕ
 node_word x y = x ∷ y ∷ NONE ∷ NONE ∷ NONE ∷ NONE ∷ []
 
+-- the nodes of a segment and its last direction, in words
+abbrev pub start_word : Option Joined → ℕ
+start_word None = NONE
+start_word (Some j) = j.start.0
+
+abbrev pub end_word : Option Joined → ℕ
+end_word None = NONE
+end_word (Some j) = j.end.0
+
+abbrev pub arrives_word : Option Joined → ℕ
+arrives_word None = 0
+arrives_word (Some j) = code j.arrives
+
 abbrev pub segment_word : Segment → List ℕ
-segment_word g = g.first ∷ g.count ∷ g.start.0 ∷ g.end.0 ∷ g.left.0 ∷ g.right.0 ∷ g.leaves ∷ g.arrives ∷ []
+segment_word g = g.first ∷ g.count ∷ start_word g.joined ∷ end_word g.joined ∷ g.left.0 ∷ g.right.0 ∷ code g.leaves ∷ arrives_word g.joined ∷ []
 
 -- what `join` asks
 pub record Ended (s : Size) (work : List ℕ) (w : Walker) (e : Walked) (n : ℕ) : Type 0 where
@@ -29,19 +42,17 @@ pub record Ended (s : Size) (work : List ℕ) (w : Walker) (e : Walked) (n : ℕ
   pub planes : 3 * plane s.width s.height ≤ length work
   pub low : n ≤ 1073807360
   pub from : Corner s w.x w.y
-  pub to : Corner s e.x e.y
-  pub leaves : w.d < 4
-  pub arrives : e.d < 4
+  pub to : Corner s e.to.x e.to.y
 
 -- the number of the node at a corner, by the plane of numbers
 abbrev pub id_at : Size → List ℕ → ℕ → ℕ → ℕ
 id_at s work x y = get_or work (id_slot s.width s.height x y) 0
 
-pub record Linked (s : Size) (a : Around) (work nodes : List ℕ) (n : ℕ) (w : Walker) (e : Walked) (nodes' : List ℕ) (r : Joined) : Type 0 where
-  pub start : r.start.0 ≡ cond (node_in a) (id_at s work w.x w.y) NONE
-  pub end : r.end.0 ≡ cond (node_in a) (id_at s work e.x e.y) NONE
-  pub last : r.last ≡ cond (node_in a) e.d 0
-  pub entered : nodes' ≡ cond (node_in a) (set (set nodes (6 * id_at s work w.x w.y + (2 + w.d)) (2 * n)) (6 * id_at s work e.x e.y + (2 + (e.d + 2) % 4)) (2 * n + 1)) nodes
+pub record Linked (s : Size) (a : Around) (work nodes : List ℕ) (n : ℕ) (w : Walker) (e : Walked) (nodes' : List ℕ) (r : Option Joined) : Type 0 where
+  pub start : start_word r ≡ cond (node_in a) (id_at s work w.x w.y) NONE
+  pub end : end_word r ≡ cond (node_in a) (id_at s work e.to.x e.to.y) NONE
+  pub arrives : arrives_word r ≡ cond (node_in a) (code e.to.d) 0
+  pub entered : nodes' ≡ cond (node_in a) (set (set nodes (6 * id_at s work w.x w.y + (2 + code w.d)) (2 * n)) (6 * id_at s work e.to.x e.to.y + (2 + code (back_of e.to.d))) (2 * n + 1)) nodes
 
 -- the word of a dart's out entry
 abbrev pub entry_slot : Picture → Dart → ℕ

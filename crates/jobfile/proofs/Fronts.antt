@@ -15,7 +15,9 @@ use lib.ListN.{length, take, drop, length-append}
 use lib.Seq.{length-take-le, take-append_seam, drop-append_seam}
 use borrow.Author.Tests.{le-leb, lt-leb, lt-ltb, le-ltb, ltb-false, eq-eqb}
 use Rattle.rules.specs.Lists.{flat}
-use Rattle.rules.specs.Picture.{Picture, OUTSIDE, Dir, N, E, S, W, Dart, dart, to_x, to_y, ahead_x, ahead_y, crack, picture}
+use Rattle.rules.specs.Picture.{Picture, OUTSIDE, Dart, dart, to_x, to_y, ahead_x, ahead_y, crack, picture}
+use Rattle.rules.specs.declared.Dir.{Dir}
+use Rattle.rules.specs.declared.Dir.TheVariants.{N, E, S, W}
 use Rattle.rules.specs.Graph.{segments}
 use Rattle.rules.specs.Describes.{Through, Segment, Describes}
 use Rattle.rules.specs.Face.{Face, faces}

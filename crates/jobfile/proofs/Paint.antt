@@ -11,7 +11,8 @@ use mathlib.Core.List.Memᴰ.{tail as there}
 use mathlib.Core.List.{List, [], ◌∷◌, map, Memᴰ as In}
 use native.Mathlib.Omega.{arith}
 use Rattle.rules.specs.Lists.{flat}
-use Rattle.rules.specs.Picture.{Picture, OUTSIDE, N, S, Dart, dart, same_dart, left_at, left, right, crack}
+use Rattle.rules.specs.Picture.{Picture, OUTSIDE, Dart, dart, same_dart, left_at, left, right, crack}
+use Rattle.rules.specs.declared.Dir.TheVariants.{N, S}
 use Rattle.rules.specs.Face.{steps, sides, Face, faces}
 use Rattle.rules.specs.Describes.{Describes}
 use Rattle.rules.proofs.Lattice.Frame.{Framed}

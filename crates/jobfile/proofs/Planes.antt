@@ -7,7 +7,8 @@ use mathlib.Core.List.{List, [], Memᴰ as In}
 use native.Mathlib.Omega.{arith}
 use lib.ListN.{length, get_or}
 use Rattle.rules.specs.Lists.{flat}
-use Rattle.rules.specs.Picture.{Picture, OUTSIDE, N, S, Dart, dart, to_x, to_y, turned, left, right, left_at, crack}
+use Rattle.rules.specs.Picture.{Picture, OUTSIDE, Dart, dart, to_x, to_y, turned, left, right, left_at, crack}
+use Rattle.rules.specs.declared.Dir.TheVariants.{N, S}
 use Rattle.rules.specs.Describes.{Describes}
 use Rattle.rules.specs.Face.{steps, region, Face, faces, contours}
 use Rattle.rules.specs.Records.{contours_of}

@@ -12,7 +12,9 @@ use lib.ListN.{length, get_or, length-map}
 use lib.Seq.{take-append_seam, drop-append_seam}
 use borrow.Author.Tests.{le-ltb, lt-ltb}
 use Rattle.rules.specs.Lists.{keep, flat, upto}
-use Rattle.rules.specs.Picture.{Picture, OUTSIDE, Dir, N, E, S, W, Dart, dart, to_x, to_y, ahead_x, ahead_y, crack, seen, label, northwest, picture}
+use Rattle.rules.specs.Picture.{Picture, OUTSIDE, Dart, dart, to_x, to_y, ahead_x, ahead_y, crack, seen, label, northwest, picture}
+use Rattle.rules.specs.declared.Dir.{Dir}
+use Rattle.rules.specs.declared.Dir.TheVariants.{N, E, S, W}
 use Rattle.rules.specs.Graph.{segments}
 use Rattle.rules.specs.Describes.{Through, Segment, Describes}
 use Rattle.rules.specs.Face.{Face, faces, steps, label_of}

@@ -1,7 +1,9 @@
 -- The picture that a file's faces paint, and the reader's outcome for any bytes (docs/RULES.md, #109).
 use Rattle.std.specs.Prelude.{ℕ, zero, suc, ◌+◌, ◌*◌, ◌/◌, ◌%◌, ◌≤◌, Bool, true, false, cond, not, ◌&&◌, ◌≡◌, List, [], ◌∷◌, ◌++◌, map, ltb, eqb, length, get_or, take, drop, replicate}
 use Rattle.rules.specs.Lists.{keep, flat, upto}
-use Rattle.rules.specs.Picture.{OUTSIDE, Dir, N, E, S, W, Dart, dart, same_dart}
+use Rattle.rules.specs.Picture.{OUTSIDE, Dart, dart, same_dart}
+use Rattle.rules.specs.declared.Dir.{Dir}
+use Rattle.rules.specs.declared.Dir.TheVariants.{N, E, S, W}
 use Rattle.rules.specs.Face.{steps}
 use Rattle.rules.specs.Calls.{Map, Accepted, first_hit, store_after}
 use Rattle.jobfile.specs.JobFile.{file_of}

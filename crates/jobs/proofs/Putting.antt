@@ -8,6 +8,8 @@ use mathlib.Core.Path.{◌≡◌, refl, ap, ap₂, sym, ◌∙◌}
 use mathlib.Core.List.{List, [], ◌∷◌, ◌++◌, map, map-append}
 use lib.ListN.{length, get_or, set, length-set, length-append}
 use lib.Seq.{sets, set_out, length-sets}
+use Rattle.std.specs.Int.{to_le_bytes}
+use Rattle.std.proofs.Common.{w32}
 use Rattle.rules.specs.Lists.{flat, upto}
 use Rattle.rules.proofs.Ground.Lists.{upto_snoc, flat_snoc, flat_append}
 use Rattle.store.specs.Words.{part}
@@ -127,6 +129,13 @@ word_low m q =
     (ap₂ (λ x y. x ∷ y) (ap (λ n. (m + n) / 256 % 256) b ∙ digit m (65536 * q) (omega arith))
     (ap₂ (λ x y. x ∷ y) (ap (λ n. (m + n) / 65536 % 256) c ∙ digit m (256 * q) (omega arith))
     (ap (λ x. x ∷ []) (ap (λ n. (m + n) / 16777216 % 256) d ∙ digit m q (omega arith)))))
+
+-- a word by the bytes of its low 32 bits
+pub low_word : (n : ℕ) (bytes : List ℕ) → bytes ≡ to_le_bytes w32 (n % 4294967296) → get_or bytes 0 0 ∷ get_or bytes 1 0 ∷ get_or bytes 2 0 ∷ get_or bytes 3 0 ∷ [] ≡ word n
+unfolding word
+low_word n bytes e =
+    let q : n ≡ n % 4294967296 + 4294967296 * (n / 4294967296) = omega arith in
+    rw e (sym (ap word q ∙ word_low (n % 4294967296) (n / 4294967296)))
 
 -- the head of a face knows that much
 pub word_wraps : (size n : ℕ) → size ≡ n % 4294967296 → word (4 * (4 + size)) ≡ word (4 * (4 + n))

@@ -1,10 +1,11 @@
 // The salvage tool: the records of a job file before the first that is cut short or breaks the form.
-ghost use Rattle.std.specs.Prelude.{◌≡◌, true, ◌||◌, ◌++◌, ◌+◌, ◌-◌, ◌*◌, ◌<◌, ◌≤◌, eqb, length, get_or, take, drop};
+ghost use Rattle.std.specs.Prelude.{◌≡◌, true, ◌+◌, ◌*◌, ◌<◌, ◌≤◌, length, get_or, take, drop};
 ghost use Rattle.jobfile.specs.Entries.{words_of, pairs, kind_of, headed as is_headed};
-ghost use Rattle.jobfile.specs.Salvage.{unit_apart, points_fit, segment_fits, all_below, contours_fit, face_fits, kind_fits, fits as record_fits, kept as kept_of, salvage as salvage_of};
-ghost use Rattle.jobs.specs.Salvaging.{placed, segments_after, kept_as, salvaged_as};
+ghost use Rattle.jobfile.specs.Salvage.{unit_apart, points_fit, segment_fits, all_below, contours_fit, face_fits, kind_fits, fits as record_fits, after, start as start_of, kept as kept_of, salvage as salvage_of};
+ghost use Rattle.jobs.specs.Salvaging.{place_of, kept_as, salvaged_as};
 
-use crate::word_at;
+use crate::{Kind, word_at};
+use rules::Refusal;
 
 // WORDS OF A BODY
 
@@ -21,21 +22,62 @@ fn word(body: &[u8], i: usize) -> u32
     word_at(body, 4 * i)
 }
 
+// WHERE A RECORD STANDS: the map's three numbers, the segments kept so far, and whether a face was kept.
+#[derive(Clone, Copy)]
+struct Place {
+    width: u32,
+    height: u32,
+    paints: u32,
+    segments: usize,
+    faces: bool,
+}
+
+impl Place {
+    // Behind the first record of a file.
+    #[tactic(auto, unfolding(jobfile::specs::Salvage::start))]
+    fn start(file: &[u8]) -> Place
+        requires { 17 < length file.now }
+        ensures { place_of result ≡ start_of file.now }
+    {
+        Place {
+            width: word_at(file, 6),
+            height: word_at(file, 10),
+            paints: word_at(file, 14),
+            segments: 0,
+            faces: false,
+        }
+    }
+
+    // One more record is kept, of the kind with that number.
+    #[tactic(auto, unfolding(jobfile::specs::Salvage::after))]
+    fn pass(&mut self, kind: u32)
+        requires { self.old.segments < 18446744073709551615 }
+        ensures { (place_of self.new ≡ after (place_of self.old) kind) × (self.new.segments ≤ self.old.segments + 1) }
+    {
+        match Kind::of(kind) {
+            Some(Kind::Segment) => self.segments += 1,
+            Some(Kind::Face) => self.faces = true,
+            Some(Kind::Map) | None => {}
+        }
+    }
+}
+
 // A SEGMENT
 
-fn apart(a: u32, b: u32) -> u32
-    ensures { result ≡ (a - b) + (b - a) }
+// The point i of a body, x and y.
+fn point(body: &[u8], i: usize) -> (u32, u32)
+    requires { 2 * i + 1 < length (words_of body.now) }
+    ensures { (result.0 ≡ get_or (words_of body.now) (2 * i) 0) × (result.1 ≡ get_or (words_of body.now) (2 * i + 1) 0) }
 {
-    if a < b { b - a } else { a - b }
+    (word(body, 2 * i), word(body, 2 * i + 1))
 }
 
 // Across and down together.
-fn unit_apart(x: u32, y: u32, u: u32, v: u32) -> bool
-    ensures { result ≡ unit_apart (x, y) (u, v) }
+#[tactic(auto, unfolding(jobfile::specs::Salvage::unit_apart))]
+fn unit_apart(p: (u32, u32), q: (u32, u32)) -> bool
+    ensures { result ≡ unit_apart p q }
 {
-    let across = apart(x, u);
-    let down = apart(y, v);
-    (across as u64) + (down as u64) == 1
+    u64::from(p.0.abs_diff(q.0)) + u64::from(p.1.abs_diff(q.1)) == 1
 }
 
 // The n points of a body: two or more, each on the map and one unit from the one before.
@@ -46,42 +88,26 @@ fn points_fit(body: &[u8], n: usize, width: u32, height: u32) -> bool
     if n < 2 {
         return false;
     }
-    let mut x = word(body, 0);
-    let mut y = word(body, 1);
-    if width < x {
+    let mut last = point(body, 0);
+    if width < last.0 || height < last.1 {
         return false;
     }
-    if height < y {
-        return false;
-    }
-    let mut i = 1;
-    while i < n {
-        let u = word(body, 2 * i);
-        let v = word(body, 2 * i + 1);
-        if width < u {
+    for i in 1..n {
+        let next = point(body, i);
+        if width < next.0 || height < next.1 || !unit_apart(last, next) {
             return false;
         }
-        if height < v {
-            return false;
-        }
-        if !unit_apart(x, y, u, v) {
-            return false;
-        }
-        x = u;
-        y = v;
-        i += 1;
+        last = next;
     }
     true
 }
 
+#[tactic(auto, unfolding(jobfile::specs::Salvage::segment_fits))]
 fn segment_fits(body: &[u8], width: u32, height: u32) -> bool
     ensures { result ≡ segment_fits width height (words_of body.now) }
 {
     let n = words(body);
-    if n % 2 != 0 {
-        return false;
-    }
-    points_fit(body, n / 2, width, height)
+    n % 2 == 0 && points_fit(body, n / 2, width, height)
 }
 
 // A FACE
@@ -91,13 +117,11 @@ fn references_fit(body: &[u8], from: usize, count: usize, n: usize) -> bool
     requires { from + count ≤ length (words_of body.now) }
     ensures { result ≡ all_below n (take count (drop from (words_of body.now))) }
 {
-    let mut i = 0;
-    while i < count {
+    for i in 0..count {
         let r = word(body, from + i);
         if n <= (r / 2) as usize {
             return false;
         }
-        i += 1;
     }
     true
 }
@@ -109,133 +133,78 @@ fn contours_fit(body: &[u8], count: u32, n: usize) -> bool
 {
     let end = words(body);
     let mut at = 4;
-    let mut left = count;
-    while 0 < left {
+    for _ in 0..count {
         if end <= at {
             return false;
         }
         let k = word(body, at) as usize;
         let room = end - at - 1;
-        if room < k {
-            return false;
-        }
-        if !references_fit(body, at + 1, k, n) {
+        if room < k || !references_fit(body, at + 1, k, n) {
             return false;
         }
         at = at + 1 + k;
-        left -= 1;
     }
     at == end
 }
 
+#[tactic(auto, unfolding(jobfile::specs::Salvage::face_fits))]
 fn face_fits(body: &[u8], paints: u32, n: usize) -> bool
     ensures { result ≡ face_fits paints n (words_of body.now) }
 {
-    if words(body) < 4 {
-        return false;
-    }
-    if paints <= word(body, 0) {
-        return false;
-    }
-    contours_fit(body, word(body, 3), n)
+    4 <= words(body) && word(body, 0) < paints && contours_fit(body, word(body, 3), n)
 }
 
 // A RECORD
 
-// A body of that kind, where so many segments were kept, and faces or none.
-fn kind_fits(
-    body: &[u8],
-    kind: u32,
-    width: u32,
-    height: u32,
-    paints: u32,
-    segments: usize,
-    faces: bool,
-) -> bool
-    ensures { result ≡ kind_fits (placed width height paints segments faces) kind (words_of body.now) }
+// A body of the kind with that number.
+#[tactic(auto, unfolding(jobfile::specs::Salvage::kind_fits))]
+fn kind_fits(body: &[u8], kind: u32, place: &Place) -> bool
+    ensures { result ≡ kind_fits (place_of place.now) kind (words_of body.now) }
 {
-    if kind == 2 {
-        if faces {
-            return false;
-        }
-        return segment_fits(body, width, height);
+    match Kind::of(kind) {
+        Some(Kind::Segment) => !place.faces && segment_fits(body, place.width, place.height),
+        Some(Kind::Face) => face_fits(body, place.paints, place.segments),
+        Some(Kind::Map) | None => false,
     }
-    if kind == 3 {
-        return face_fits(body, paints, segments);
-    }
-    false
 }
 
 // The first record is whole and keeps the form.
-fn fits(
-    b: &[u8],
-    kind: u32,
-    width: u32,
-    height: u32,
-    paints: u32,
-    segments: usize,
-    faces: bool,
-) -> bool
+#[tactic(auto, unfolding(jobfile::specs::Salvage::fits, jobfile::specs::Entries::entry_size, jobfile::specs::Entries::body_length, jobfile::specs::Entries::body))]
+fn fits(b: &[u8], kind: u32, place: &Place) -> bool
     requires { (5 < length b.now) × (kind ≡ kind_of b.now) }
-    ensures { result ≡ record_fits (placed width height paints segments faces) b.now }
+    ensures { result ≡ record_fits (place_of place.now) b.now }
 {
     let size = word_at(b, 0) as usize;
     let end = size + 6;
-    if b.len() < end {
-        return false;
-    }
-    if size % 4 != 0 {
-        return false;
-    }
-    kind_fits(&b[6..end], kind, width, height, paints, segments, faces)
-}
-
-fn segments_after(segments: usize, kind: u32) -> usize
-    requires { segments < 18446744073709551615 }
-    ensures { (result ≡ segments_after segments kind) × (result ≤ segments + 1) }
-{
-    if kind == 2 { segments + 1 } else { segments }
-}
-
-fn faces_after(faces: bool, k: u32) -> bool
-    ensures { result ≡ faces || eqb k 3 }
-{
-    if faces {
-        return true;
-    }
-    k == 3
+    end <= b.len() && size % 4 == 0 && kind_fits(&b[6..end], kind, place)
 }
 
 // WHAT IS KEPT: its length, and the kind of the first record dropped
-
-#[derive(Clone, Copy)]
-struct Kept {
-    length: usize,
-    kind: u32,
+// Kept, point 1: `kind` stays a number: the C interface answers it, 0 for none, and any number stands in a file.
+#[derive(Clone, Copy, Debug, PartialEq, Eq)]
+pub struct Kept {
+    pub length: usize,
+    pub kind: u32,
 }
 
 fn keep(b: &[u8]) -> Kept
     requires { is_headed b.now ≡ true }
     ensures { kept_as result ≡ kept_of b.now }
 {
-    let width = word_at(b, 6);
-    let height = word_at(b, 10);
-    let paints = word_at(b, 14);
+    let mut place = Place::start(b);
     let mut at = 18;
-    let mut segments = 0;
-    let mut faces = false;
+    // Kept, point 3: a record says its own length, so where the next one stands is not known before.
     while 6 <= b.len() - at {
         let t = &b[at..];
-        let k = crate::kind(t);
-        if !fits(t, k, width, height, paints, segments, faces) {
+        let k = crate::kind_number(t);
+        if !fits(t, k, &place) {
             return Kept {
                 length: at,
                 kind: k,
             };
         }
         at = at + 6 + (word_at(t, 0) as usize);
-        segments = segments_after(segments, k);
-        faces = faces_after(faces, k);
+        place.pass(k);
     }
     Kept {
         length: at,
@@ -245,49 +214,19 @@ fn keep(b: &[u8]) -> Kept
 
 // THE TOOL
 
-// The first n bytes, unchanged.
-fn copy(from: &[u8], n: usize, to: &mut [u8])
-    requires { (n ≤ length from.now) × (n ≤ length to.old) }
-    ensures { to.new ≡ take n from.now ++ drop n to.old }
-{
-    let mut k = 0;
-    while k < n {
-        to[k] = from[k];
-        k += 1;
-    }
-}
-
-#[derive(Clone, Copy)]
-pub struct Salvaged {
-    pub number: u32,
-    pub length: u64,
-    pub kind: u32,
-}
-
-// For any bytes and any store: 14 when the first record is no whole kind 1 with allowed numbers, then 13 when the store is short.
-pub fn salvage(file: &[u8], out: &mut [u8]) -> Salvaged
+// What of a file is kept, and its bytes in `out`. For any bytes and any store: refused when the first record is no whole map record with
+// allowed numbers, then when the store is short.
+pub fn salvage(file: &[u8], out: &mut [u8]) -> Result<Kept, Refusal>
     ensures { salvaged_as result out.new ≡ salvage_of file.now out.old }
 {
     if !crate::headed(file) {
-        return Salvaged {
-            number: 14,
-            length: 0,
-            kind: 0,
-        };
+        return Err(Refusal::NoJobFile);
     }
     let k = keep(file);
     let n = k.length;
     if out.len() < n {
-        return Salvaged {
-            number: 13,
-            length: 0,
-            kind: 0,
-        };
+        return Err(Refusal::ShortOutput);
     }
-    copy(file, n, out);
-    Salvaged {
-        number: 0,
-        length: n as u64,
-        kind: k.kind,
-    }
+    out[..n].copy_from_slice(&file[..n]);
+    Ok(k)
 }

@@ -8,7 +8,9 @@ use native.Mathlib.Omega.{arith}
 use lib.Dec.{ltb}
 use lib.ListN.{length, get_or, drop}
 use borrow.Author.Tests.{ltb-false}
+use Rattle.std.specs.Prelude.{Result, Ok, Err}
 use Rattle.rules.specs.Calls.{Map, cut_list, first_hit, map_checks, graph_checks, face_checks, store_after}
+use Rattle.calls.specs.declared.Refused.{Refused}
 use Rattle.calls.proofs.Checks.{both_miss, map_positive}
 use Rattle.calls.proofs.Outcomes.{first, passed}
 use Rattle.calls.proofs.Settled.{number_is}
@@ -17,8 +19,8 @@ use Rattle.jobfile.specs.JobFile.{waste_free, painted_map, file_of, file_checks,
 use Rattle.jobfile.specs.Painted.{painted, MadeFrom}
 use Rattle.jobfile.proofs.Round.{made_reads}
 use Rattle.jobwrite.specs.declared.Written.{Written as WrittenCode}
-use Rattle.jobwrite.specs.Written.{written_as}
-use Rattle.jobwrite.proofs.Stages.{store_number, late_number, more_number, none_of_both, write_fine}
+use Rattle.jobwrite.specs.Written.{counts_in, length_in, written_as}
+use Rattle.jobwrite.proofs.Stages.{late_number, both_zero, write_fine}
 
 few_paints : (p : ℕ) (t : Bool) → first_hit (record { number = 19; hits = ltb 65535 p } ∷ record { number = 13; hits = t } ∷ []) ≡ 0 → p ≤ 65535
 unfolding first_hit
@@ -36,8 +38,7 @@ module _ (m : Map) (word : m.paints ≤ 4294967295) (work ns ss ps rs cs fs file
       let n = waste_free m in
       let l = cut_list n in
       let more = graph_checks l ns ss ps ++ (face_checks l rs cs fs ++ file_checks m (file_of m) file) in
-      let b = both_miss (map_checks n work) more (map_positive n work) (sym (number_is n l work more _) ∙ z) in
-      (b.0, sym (more_number m work ns ss ps rs cs fs file) ∙ b.1)
+      both_miss (map_checks n work) more (map_positive n work) (sym (number_is n l work more _) ∙ z)
 
   pub write_made : MadeFrom (file_of m) m
   unfolding file_checks
@@ -45,7 +46,7 @@ module _ (m : Map) (word : m.paints ≤ 4294967295) (work ns ss ps rs cs fs file
       let p = passed (waste_free m) work both.0 in
       record {
         accepted = record { wide = p.wide; tall = p.high; size = p.labels; word = word };
-        few = few_paints m.paints _ (none_of_both (store_number m work ns ss ps rs cs fs file) _ both.1).1;
+        few = few_paints m.paints _ (both_zero m work ns ss ps rs cs fs file both.1).1;
         bytes = refl;
       }
 
@@ -62,7 +63,13 @@ module _ (m : Map) (word : m.paints ≤ 4294967295) (work ns ss ps rs cs fs file
   write_painted = (made_reads (file_of m) m write_made).map
 
 -- ONE OUTCOME: two results that meet the writer's promise on the same input are equal, answer, length and all stores
-pub one_written : (w : Written) (r t : WrittenCode) (ss ts : List (List ℕ)) → written_as r ss ≡ w → written_as t ts ≡ w → (r ≡ t) × (ss ≡ ts)
+pub one_written : (w : Written) (r t : Result WrittenCode Refused) (ss ts : List (List ℕ)) → written_as r ss ≡ w → written_as t ts ≡ w → (r ≡ t) × (ss ≡ ts)
 one_written w r t ss ts p q =
-    let o = one_outcome w.outcome r.answer t.answer ss ts (ap (λ w. w.outcome) p) (ap (λ w. w.outcome) q) in
-    (λ i. record { answer = o.0 i; length = (ap (λ w. w.length) (p ∙ sym q)) i }, o.1)
+    let o = one_outcome w.outcome (counts_in r) (counts_in t) ss ts (ap (λ w. w.outcome) p) (ap (λ w. w.outcome) q) in
+    (same r t o.0 (ap (λ w. w.length) (p ∙ sym q)), o.1)
+  where
+    same : (r t : Result WrittenCode Refused) → counts_in r ≡ counts_in t → length_in r ≡ length_in t → r ≡ t
+    same (Ok w) (Ok v) e n = let c : w.counts ≡ v.counts = cc in λ i. Ok (record { counts = c i; length = n i })
+    same (Ok w) (Err r) e n = cc
+    same (Err r) (Ok w) e n = cc
+    same (Err r) (Err q) e n = let c : r ≡ q = cc in ap Err c

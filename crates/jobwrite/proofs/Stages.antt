@@ -4,25 +4,19 @@ use mathlib.Core.Bool.{true, false, not, ◌||◌}
 use mathlib.Core.Path.{◌≡◌, sym, ap, ◌∙◌}
 use mathlib.Core.List.{List, [], ◌∷◌, ◌++◌, append_assoc}
 use native.Mathlib.Omega.{arith}
-use native.Mathlib.Decide.{ℕ_discrete}
 use lib.Dec.{ltb, eqb}
 use lib.ListN.{length, drop, replicate, length-append, length-drop, length-replicate}
 use lib.Seq.{drop_at}
-use borrow.Author.Tests.{eq-eqb, ne_eqb}
+use borrow.Author.Tests.{ne_eqb}
+use Rattle.std.specs.Prelude.{Result}
+use Rattle.std.specs.Result.{result_and}
+use Rattle.rules.specs.declared.Refusal.{Refusal}
+use Rattle.rules.specs.Refusals.{number_in}
 use Rattle.rules.specs.Calls.{Map, CutList, cut_list, counted, refused, Check, first_hit, map_checks, work_words, graph_checks, face_checks, store_after, call, size, whole}
-use Rattle.calls.specs.Counted.{or_else}
-use Rattle.calls.proofs.Checks.{Positive, hits_or}
+use Rattle.calls.proofs.Checks.{Positive, hits_and, both_miss}
 use Rattle.calls.proofs.Outcomes.{Late, first, passed, number_late, refused_answer, refused_work, refused_store, accepted_answer, accepted_work, store_kept}
 use Rattle.calls.proofs.Settled.{cleared}
 use Rattle.jobfile.specs.JobFile.{waste_free, file_of, file_checks, Written, write}
-
--- no number of either
-pub none_of_both : (n k : ℕ) → or_else n k ≡ 0 → (n ≡ 0) × (k ≡ 0)
-none_of_both n k z =
-    elim (ℕ_discrete n 0) [
-      | yes e ↦ (e, rw (eq-eqb n 0 e, or_else) at z)
-      | no o ↦ absurd (o (rw (ne_eqb n 0 o, or_else) at z))
-    ]
 
 -- the file's length for a number
 abbrev length_for : ℕ → ℕ → ℕ
@@ -39,34 +33,41 @@ module _ (m : Map) (work ns ss ps rs cs fs file : List ℕ) where
   l = cut_list n
 
   -- 4 to 9
+  abbrev stores : List Check
+  stores = graph_checks l ns ss ps ++ face_checks l rs cs fs
+
   abbrev pub store_number : ℕ
-  store_number = first_hit (graph_checks l ns ss ps ++ face_checks l rs cs fs)
+  store_number = first_hit stores
 
   -- and then 19 and 13
-  abbrev pub late_number : ℕ
-  late_number = or_else store_number (first_hit (file_checks m (file_of m) file))
-
   abbrev more : List Check
   more = graph_checks l ns ss ps ++ (face_checks l rs cs fs ++ file_checks m (file_of m) file)
+
+  abbrev pub late_number : ℕ
+  late_number = first_hit more
 
   more_late : Late more
   unfolding graph_checks face_checks file_checks
   more_late = (omega arith, (omega arith, (omega arith, (omega arith, (omega arith, (omega arith, (omega arith, (omega arith, tt))))))))
 
-  stores_late : Late (graph_checks l ns ss ps ++ face_checks l rs cs fs)
+  stores_late : Late stores
   unfolding graph_checks face_checks
   stores_late = (omega arith, (omega arith, (omega arith, (omega arith, (omega arith, (omega arith, tt))))))
 
-  stores_positive : Positive (graph_checks l ns ss ps ++ face_checks l rs cs fs)
+  stores_positive : Positive stores
   unfolding graph_checks face_checks
   stores_positive = (omega arith, (omega arith, (omega arith, (omega arith, (omega arith, (omega arith, tt))))))
 
-  pub more_number : first_hit more ≡ late_number
-  more_number =
-      let g = graph_checks l ns ss ps in
-      let f = face_checks l rs cs fs in
-      let d = file_checks m (file_of m) file in
-      ap first_hit (sym (append_assoc g f d)) ∙ sym (hits_or (g ++ f) d stores_positive)
+  joined : stores ++ file_checks m (file_of m) file ≡ more
+  joined = append_assoc (graph_checks l ns ss ps) (face_checks l rs cs fs) (file_checks m (file_of m) file)
+
+  -- the checks of the stores and of the file, in that order
+  pub late_is : (held paid : Result (Unit {0}) Refusal) → number_in held ≡ store_number → number_in paid ≡ first_hit (file_checks m (file_of m) file)
+      → number_in (result_and held paid) ≡ late_number
+  late_is held paid e f = hits_and stores (file_checks m (file_of m) file) stores_positive held paid e f ∙ ap first_hit joined
+
+  pub both_zero : late_number ≡ 0 → (store_number ≡ 0) × (first_hit (file_checks m (file_of m) file) ≡ 0)
+  both_zero z = both_miss stores (file_checks m (file_of m) file) stores_positive (ap first_hit joined ∙ z)
 
   -- EARLY: nothing was looked at
   module _ (h : first n work ≡ 0 → ⊥) where
@@ -117,7 +118,7 @@ module _ (m : Map) (work ns ss ps rs cs fs file : List ℕ) where
         let e = number_late n work more more_late z in
         let k : ℕ → ℕ = λ j. length_for j (length (file_of m)) in
         let s : (words store : List ℕ) → store_after (first_hit (map_checks n work ++ more)) words store ≡ store_after (first_hit more) words store = λ words store. ap (λ j. store_after j words store) e in
-        (λ i. record {
+        λ i. record {
           outcome = record {
             answer = a i;
             stores =
@@ -125,8 +126,7 @@ module _ (m : Map) (work ns ss ps rs cs fs file : List ℕ) where
                 ∷ s l.contours cs i ∷ s l.faces fs i ∷ s (file_of m) file i ∷ [];
           };
           length = k (a i).number;
-        })
-        ∙ ap after more_number
+        }
 
     -- 4 to 9, 19 and 13: no store but the work words changed
     pub write_refused : (late_number ≡ 0 → ⊥) → write m work ns ss ps rs cs fs file
@@ -181,7 +181,7 @@ module _ (m : Map) (work ns ss ps rs cs fs file : List ℕ) where
     unfolding whole call
     whole_fine e =
         let w = cleared n work in
-        let ds = graph_checks l ns ss ps ++ face_checks l rs cs fs in
+        let ds = stores in
         let k : first_hit (map_checks n w ++ ds) ≡ 0 = number_late n w ds stores_late again_first ∙ e in
         let s : (words store : List ℕ) → store_after (first_hit (map_checks n w ++ ds)) words store ≡ store_after 0 words store = λ words store. ap (λ j. store_after j words store) k in
         λ i. record {

@@ -1,12 +1,13 @@
 -- A crack is an edge of the frame.
 use Rattle.std.proofs.Common.{◌≡◌, ℕ, suc, pred, ◌<◌, true, List, ap, arith}
-use Rattle.rules.specs.Picture.{Picture, picture, N, E, S, W, Dart, dart, turned, to_x, to_y, crack}
+use Rattle.rules.specs.Picture.{Picture, picture, Dart, dart, turned, to_x, to_y, crack}
+use Rattle.rules.specs.declared.Dir.{Dir}
+use Rattle.rules.specs.declared.Dir.TheVariants.{N, E, S, W}
 use Rattle.rules.proofs.Lattice.Frame.{Framed, picture_framed}
 use Rattle.rules.proofs.Lattice.Darts.{crack_x, crack_y, crack_to_x, crack_to_y, turned_turned}
 use Rattle.lattice.specs.declared.Size.{Size}
 use Rattle.lattice.specs.declared.Walker.{Walker}
 use Rattle.lattice.specs.Size.{pic}
-use Rattle.lattice.specs.Dirs.{dir}
 use Rattle.lattice.specs.Walker.{Edge, dart_of}
 
 module _ {P : Picture} (F : Framed P) (x y : ℕ) where
@@ -29,10 +30,9 @@ module _ {P : Picture} (F : Framed P) (x y : ℕ) where
 pub framed : (s : Size) (ls : List ℕ) → Framed (pic s ls)
 framed s ls = picture_framed s.width s.height s.bound ls
 
-pub crack_edge : (s : Size) (ls : List ℕ) (a : Walker) → a.d < 4 → crack (pic s ls) (dart_of a) ≡ true → Edge s a
+pub crack_edge : (s : Size) (ls : List ℕ) (a : Walker) → crack (pic s ls) (dart_of a) ≡ true → Edge s a
 unfolding picture
-crack_edge s ls a p k = record {
-  way = p;
+crack_edge s ls a k = record {
   across = crack_x F (dart_of a) k;
   down = crack_y F (dart_of a) k;
   north = λ e. north F a.x a.y (at e);
@@ -44,5 +44,5 @@ crack_edge s ls a p k = record {
     F : Framed (pic s ls)
     F = framed s ls
 
-    at : {d : ℕ} → a.d ≡ d → crack (pic s ls) (dart a.x a.y (dir d)) ≡ true
+    at : {d : Dir} → a.d ≡ d → crack (pic s ls) (dart a.x a.y d) ≡ true
     at e = rw (← e) k

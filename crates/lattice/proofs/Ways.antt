@@ -2,7 +2,9 @@
 use Rattle.std.proofs.Common.{◌≡◌, ℕ, zero, suc, pred, ◌+◌, ◌*◌, ◌%◌, ◌<◌, ◌≤◌, Bool, true, false, not, ◌&&◌, ◌||◌, eqb, leb, get_or, sym, refl, ap, ◌∙◌, arith, lit<, eq-eqb, ne_eqb, eqb-true}
 use native.Mathlib.Decide.{ℕ_discrete}
 use lib.ListN.{get_or-eq_default}
-use Rattle.rules.specs.Picture.{Picture, to_x, to_y, Dir, N, E, S, W, code, right_of, back_of, same_dir, dart, left_at, left, right, crack, one, degree, node, ahead_x, ahead_y}
+use Rattle.rules.specs.Picture.{Picture, to_x, to_y, code, right_of, back_of, same_dir, dart, left_at, left, right, crack, one, degree, node, ahead_x, ahead_y}
+use Rattle.rules.specs.declared.Dir.{Dir}
+use Rattle.rules.specs.declared.Dir.TheVariants.{N, E, S, W}
 use Rattle.rules.proofs.Ground.Booleans.{implies, implied, of_every4}
 use Rattle.rules.proofs.Lattice.Corners.{no_single}
 use Rattle.rules.specs.Graph.{way_on, onward, following}
@@ -104,19 +106,6 @@ by_four Q a b c e (suc (suc zero)) p = c
 by_four Q a b c e (suc (suc (suc zero))) p = e
 by_four Q a b c e (suc (suc (suc (suc d)))) p = absurd (omega arith)
 
--- the way back, by number
-abbrev Back : ℕ → ℕ → Type 0
-Back d e = eqb e ((d + 2) % 4) ≡ same_dir (dir e) (back_of (dir d))
-
-pub back_number : (d e : ℕ) → d < 4 → e < 4 → Back d e
-back_number d e p q =
-    by_four (λ d. Back d e)
-    (by_four (λ e. Back 0 e) refl refl refl refl e q)
-    (by_four (λ e. Back 1 e) refl refl refl refl e q)
-    (by_four (λ e. Back 2 e) refl refl refl refl e q)
-    (by_four (λ e. Back 3 e) refl refl refl refl e q)
-    d p
-
 pub code_dir : (d : ℕ) → d < 4 → code (dir d) ≡ d
 code_dir = by_four (λ d. code (dir d) ≡ d) refl refl refl refl
 
@@ -132,51 +121,28 @@ code_small E = lit< tt
 code_small S = lit< tt
 code_small W = lit< tt
 
-module _ (a : Around) (d e : ℕ) (p : d < 4) (q : e < 4) where
-  pub no_crack : crack_in a (dir e) ≡ false → way_in a (dir d) (dir e) ≡ false
-  no_crack h = rw h
-
-  pub way_back : e ≡ (d + 2) % 4 → way_in a (dir d) (dir e) ≡ false
-  way_back h = go (crack_in a (dir e)) (same_dir (dir e) (back_of (dir d))) (sym (back_number d e p q) ∙ eq-eqb e ((d + 2) % 4) h)
-    where
-      go : (b t : Bool) → t ≡ true → (b && not t) ≡ false
-      go true t h = rw h
-      go false t h = refl
-
-  pub way_on_lem : (e ≡ (d + 2) % 4 → ⊥) → crack_in a (dir e) ≡ true → way_in a (dir d) (dir e) ≡ true
-  way_on_lem h k = go (crack_in a (dir e)) (same_dir (dir e) (back_of (dir d))) k (sym (back_number d e p q) ∙ ne_eqb e ((d + 2) % 4) h)
-    where
-      go : (b t : Bool) → b ≡ true → t ≡ false → (b && not t) ≡ true
-      go b t k h = rw (k, h)
-
-module _ (a : Around) (d : Dir) where
-  -- the first of the ways on
-  pub first_way : (e : ℕ) → e < 3 → ((k : ℕ) → k < e → way_in a d (dir k) ≡ false) → way_in a d (dir e) ≡ true → e ≡ code (onward_in a d)
-  unfolding onward_in
-  first_way zero p none h = rw h
-  first_way (suc zero) p none h = rw (none 0 (omega arith), h)
-  first_way (suc (suc zero)) p none h = rw (none 0 (omega arith), none 1 (omega arith), h)
-  first_way (suc (suc (suc e))) p none h = absurd (omega arith)
-
-  pub last_way : ((k : ℕ) → k < 3 → way_in a d (dir k) ≡ false) → 3 ≡ code (onward_in a d)
-  unfolding onward_in
-  last_way none = rw (none 0 (omega arith), none 1 (omega arith), none 2 (omega arith))
+-- a fact of each direction
+pub by_dir : (Q : Dir → Type 0) → Q N → Q E → Q S → Q W → (d : Dir) → Q d
+by_dir Q a b c e N = a
+by_dir Q a b c e E = b
+by_dir Q a b c e S = c
+by_dir Q a b c e W = e
 
 -- the corner ahead
 pub edge_corner : (s : Size) (w : Walker) → Edge s w → Corner s (ahead_x (dart_of w)) (ahead_y (dart_of w))
 unfolding to_x to_y
-edge_corner s w h = by_four (λ d. (d ≡ 0 → 0 < w.y) → (d ≡ 1 → w.x < s.width) → (d ≡ 2 → w.y < s.height) → Corner s (to_x w.x (dir d)) (to_y w.y (dir d)))
+edge_corner s w h = by_dir (λ d. (d ≡ N → 0 < w.y) → (d ≡ E → w.x < s.width) → (d ≡ S → w.y < s.height) → Corner s (to_x w.x d) (to_y w.y d))
     (λ n e t. let q : pred w.y ≤ s.height = omega arith in record { across = h.across; down = q })
     (λ n e t. let n : w.x < s.width = e refl in omega arith)
     (λ n e t. let n : w.y < s.height = t refl in omega arith)
     (λ n e t. let q : pred w.x ≤ s.width = omega arith in record { across = q; down = h.down })
-    w.d h.way h.north h.east h.south
+    w.d h.north h.east h.south
 
 -- what a step hands back
-pub step_made : (self m : Walker) (a : Around) (d : ℕ) → m ≡ moved_of self → d ≡ code (onward_in a (dir m.d)) → ◌≡◌ {A = Walker} (record { x = m.x; y = m.y; d = d }) (step_in a self)
+pub step_made : (self m : Walker) (a : Around) (d : Dir) → m ≡ moved_of self → d ≡ onward_in a m.d → ◌≡◌ {A = Walker} (record { x = m.x; y = m.y; d = d }) (step_in a self)
 step_made self m a d e g = rw (g, e)
 
 -- and that is the step that follows
 pub step_follows : (P : Picture) (c : Walker) (a : Around) → a ≡ around_of P (ahead_x (dart_of c)) (ahead_y (dart_of c)) → dart_of (step_in a c) ≡ following P (dart_of c)
 unfolding following
-step_follows P c a e = rw (e, dir_code, onward_in_lem P (ahead_x (dart_of c)) (ahead_y (dart_of c)))
+step_follows P c a e = rw (e, onward_in_lem P (ahead_x (dart_of c)) (ahead_y (dart_of c)))

@@ -1,6 +1,8 @@
 -- The four labels around a corner, and the definitions of the lattice said of them alone.
 use Rattle.std.specs.Prelude.{ℕ, suc, ◌+◌, ◌*◌, Bool, true, false, cond, not, ◌&&◌, List, [], ◌∷◌, ◌==◌, nat_le}
-use Rattle.rules.specs.Picture.{Picture, Dir, N, E, S, W, right_of, back_of, same_dir, one}
+use Rattle.rules.specs.Picture.{Picture, right_of, back_of, same_dir, one}
+use Rattle.rules.specs.declared.Dir.{Dir}
+use Rattle.rules.specs.declared.Dir.TheVariants.{N, E, S, W}
 use Rattle.lattice.specs.declared.Around.{Around}
 
 abbrev pub around_of : Picture → ℕ → ℕ → Around

@@ -2,12 +2,14 @@
 #![tactic(auto)]
 
 ghost use Rattle.std.specs.Prelude.{◌≡◌, ◌+◌, ◌*◌, ◌<◌, ◌≤◌};
-ghost use Rattle.rules.specs.Picture.{one as one_if, seen as seen_label, label as label_at, right_of, code};
+ghost use Rattle.rules.specs.Picture.{seen as seen_label, label as label_at, right_of};
 ghost use Rattle.lattice.specs.Size.{Small, Sides, Map, Corner, pic};
 ghost use Rattle.lattice.specs.Planes.{plane, place};
 ghost use Rattle.lattice.specs.Dirs.{dir};
-ghost use Rattle.lattice.specs.Around.{around_of, left_in, crack_in, mask_in, node_in, onward_in};
+ghost use Rattle.lattice.specs.Around.{around_of, left_in, crack_in, mask_in, node_in, way_in, onward_in};
 ghost use Rattle.lattice.specs.Walker.{Ahead, moved_of, step_in};
+
+use rules::Dir;
 
 pub const OUTSIDE: u32 = 4294967295;
 
@@ -15,7 +17,7 @@ pub const OUTSIDE: u32 = 4294967295;
 pub const NONE: u32 = 4294967295;
 
 // The sides of a map, how many of its labels are painted, and the first label that is read as OUTSIDE.
-#[derive(Clone, Copy)]
+#[derive(Clone, Copy, Debug, PartialEq, Eq)]
 pub struct Size {
     pub width: u32,
     pub height: u32,
@@ -24,17 +26,17 @@ pub struct Size {
 }
 
 // Numbers that must not be mixed up: they are unpacked at the stores only.
-#[derive(Clone, Copy)]
+#[derive(Clone, Copy, Debug, PartialEq, Eq)]
 pub struct NodeId(pub u32);
 
-#[derive(Clone, Copy)]
+#[derive(Clone, Copy, Debug, PartialEq, Eq)]
 pub struct SegId(pub u32);
 
-#[derive(Clone, Copy)]
+#[derive(Clone, Copy, Debug, PartialEq, Eq)]
 pub struct RegionId(pub u32);
 
 // The labels of the four pixels around a corner.
-#[derive(Clone, Copy)]
+#[derive(Clone, Copy, Debug, PartialEq, Eq)]
 pub struct Around {
     pub nw: u32,
     pub ne: u32,
@@ -60,8 +62,8 @@ pub fn plane(s: Size) -> usize
 
 // The word of the corner (x, y) in a plane.
 pub fn corner_index(s: Size, x: u32, y: u32) -> usize
-    requires fact_1 { Sides s }
-    requires fact_2 { Corner s x y }
+    requires sides { Sides s }
+    requires corner { Corner s x y }
     ensures { (result ≡ place s.width x y) × (result < plane s.width s.height) }
 {
     cell(s.width + 1, x, y)
@@ -79,24 +81,22 @@ pub fn label(s: Size, labels: &[u32], x: u32, y: u32) -> RegionId
     requires { Map s labels.now }
     ensures { result.0 ≡ label_at s.width s.height s.bound labels.now x y }
 {
-    if x < s.width {
-        if y < s.height {
-            let i = cell(s.width, x, y);
-            let l = labels[i];
-            return RegionId(seen(s.bound, l));
-        }
+    if x < s.width && y < s.height {
+        let i = cell(s.width, x, y);
+        let l = labels[i];
+        return RegionId(seen(s.bound, l));
     }
     RegionId(OUTSIDE)
 }
 
 // The four labels around the corner (x, y).
 pub fn look(s: Size, labels: &[u32], x: u32, y: u32) -> Around
-    requires fact_1 { Map s labels.now }
-    requires fact_2 { Corner s x y }
+    requires map { Map s labels.now }
+    requires corner { Corner s x y }
     ensures { result ≡ around_of (pic s labels.now) x y }
 {
-    let west = std::num::wrapping_sub_u32(x, 1);
-    let north = std::num::wrapping_sub_u32(y, 1);
+    let west = x.wrapping_sub(1);
+    let north = y.wrapping_sub(1);
     let nw = label(s, labels, west, north);
     let ne = label(s, labels, x, north);
     let sw = label(s, labels, west, y);
@@ -109,58 +109,53 @@ pub fn look(s: Size, labels: &[u32], x: u32, y: u32) -> Around
     }
 }
 
-// 1 for true, 0 for false.
-fn one(b: bool) -> u32
-    ensures { (result ≡ one_if b) × (result ≤ 1) }
+// The direction that a record's number means: 3 and any number above is west.
+pub fn direction(number: u32) -> Dir
+    ensures { result ≡ dir number }
 {
-    if b { 1 } else { 0 }
+    match number {
+        0 => Dir::N,
+        1 => Dir::E,
+        2 => Dir::S,
+        _ => Dir::W,
+    }
 }
 
 impl Around {
     // The label on the left when leaving in the direction d.
-    pub fn left(self, d: u32) -> RegionId
-        requires { d < 4 }
-        ensures { result.0 ≡ left_in self (dir d) }
+    pub fn left(self, d: Dir) -> RegionId
+        ensures { result.0 ≡ left_in self d }
     {
         match d {
-            0 => RegionId(self.nw),
-            1 => RegionId(self.ne),
-            2 => RegionId(self.se),
-            _ => RegionId(self.sw),
+            Dir::N => RegionId(self.nw),
+            Dir::E => RegionId(self.ne),
+            Dir::S => RegionId(self.se),
+            Dir::W => RegionId(self.sw),
         }
     }
 
-    // The label on the right.
-    pub fn right(self, d: u32) -> RegionId
-        requires { d < 4 }
-        ensures { result.0 ≡ left_in self (right_of (dir d)) }
+    // The label on the right: that on the left of the next direction round.
+    pub fn right(self, d: Dir) -> RegionId
+        ensures { result.0 ≡ left_in self (right_of d) }
     {
-        match d {
-            0 => RegionId(self.ne),
-            1 => RegionId(self.se),
-            2 => RegionId(self.sw),
-            _ => RegionId(self.nw),
-        }
+        self.left(d.right())
     }
 
     // Whether there is a crack in the direction d.
-    pub fn crack(self, d: u32) -> bool
-        requires { d < 4 }
-        ensures { result ≡ crack_in self (dir d) }
+    pub fn crack(self, d: Dir) -> bool
+        ensures { result ≡ crack_in self d }
     {
-        let l = self.left(d);
-        let r = self.right(d);
-        l.0 != r.0
+        self.left(d) != self.right(d)
     }
 
     // The cracks that meet, a bit for each: N 1, E 2, S 4, W 8.
     pub fn edge_mask(self) -> u32
         ensures { result ≡ mask_in self }
     {
-        one(self.nw != self.ne)
-            + 2 * one(self.ne != self.se)
-            + 4 * one(self.se != self.sw)
-            + 8 * one(self.sw != self.nw)
+        u32::from(self.nw != self.ne)
+            + 2 * u32::from(self.ne != self.se)
+            + 4 * u32::from(self.se != self.sw)
+            + 8 * u32::from(self.sw != self.nw)
     }
 
     // Whether the corner is a node, by its mask, row by row: three or four cuts meet. No corner has a mask of one cut alone, since the
@@ -189,35 +184,38 @@ impl Around {
         }
     }
 
-    // The first crack other than the way back, for a walk that arrives with the heading d.
-    pub fn onward(self, d: u32) -> u32
-        requires { d < 4 }
-        ensures { result ≡ code (onward_in self (dir d)) }
+    // Whether a walk that arrives with this heading may go on in the direction d: along a crack, and not back.
+    fn way(self, heading: Dir, d: Dir) -> bool
+        ensures { result ≡ way_in self heading d }
     {
-        let back = (d + 2) % 4;
-        let mut e: u32 = 0;
-        loop {
-            if e == 3 {
-                break 3;
-            }
-            if e != back {
-                if self.crack(e) {
-                    break e;
-                }
-            }
-            e += 1;
+        self.crack(d) && d != heading.back()
+    }
+
+    // The first crack other than the way back, for a walk that arrives with this heading.
+    #[tactic(auto, unfolding(crate::specs::Around::onward_in))]
+    pub fn onward(self, heading: Dir) -> Dir
+        ensures { result ≡ onward_in self heading }
+    {
+        if self.way(heading, Dir::N) {
+            Dir::N
+        } else if self.way(heading, Dir::E) {
+            Dir::E
+        } else if self.way(heading, Dir::S) {
+            Dir::S
+        } else {
+            Dir::W
         }
     }
 }
 
 // The labels around the corner east of (x, y), by the labels a around that.
 pub fn look_east(s: Size, labels: &[u32], a: Around, x: u32, y: u32) -> Around
-    requires fact_1 { Map s labels.now }
-    requires fact_2 { Corner s x y }
-    requires fact_3 { a ≡ around_of (pic s labels.now) x y }
+    requires map { Map s labels.now }
+    requires corner { Corner s x y }
+    requires around { a ≡ around_of (pic s labels.now) x y }
     ensures { result ≡ around_of (pic s labels.now) (x + 1) y }
 {
-    let north = std::num::wrapping_sub_u32(y, 1);
+    let north = y.wrapping_sub(1);
     let ne = label(s, labels, x + 1, north);
     let se = label(s, labels, x + 1, y);
     Around {
@@ -229,27 +227,37 @@ pub fn look_east(s: Size, labels: &[u32], a: Around, x: u32, y: u32) -> Around
 }
 
 // A walker: the corner that it stands at, and the direction that it goes.
-#[derive(Clone, Copy)]
+#[derive(Clone, Copy, Debug, PartialEq, Eq)]
 pub struct Walker {
     pub x: u32,
     pub y: u32,
-    pub d: u32,
+    pub d: Dir,
 }
 
 impl Walker {
     // One unit ahead.
+    #[tactic(auto, unfolding(rules::specs::Picture::to_x, rules::specs::Picture::to_y))]
     pub fn moved(self) -> Walker
         requires { Ahead self }
         ensures { result ≡ moved_of self }
     {
-        let x = self.x;
-        let y = self.y;
-        let d = self.d;
-        match d {
-            0 => Walker { x, y: y - 1, d },
-            1 => Walker { x: x + 1, y, d },
-            2 => Walker { x, y: y + 1, d },
-            _ => Walker { x: x - 1, y, d },
+        match self.d {
+            Dir::N => Walker {
+                y: self.y - 1,
+                ..self
+            },
+            Dir::E => Walker {
+                x: self.x + 1,
+                ..self
+            },
+            Dir::S => Walker {
+                y: self.y + 1,
+                ..self
+            },
+            Dir::W => Walker {
+                x: self.x - 1,
+                ..self
+            },
         }
     }
 
@@ -259,7 +267,9 @@ impl Walker {
         ensures { result ≡ step_in a self }
     {
         let m = self.moved();
-        let d = a.onward(m.d);
-        Walker { x: m.x, y: m.y, d }
+        Walker {
+            d: a.onward(m.d),
+            ..m
+        }
     }
 }

@@ -7,17 +7,17 @@ use mathlib.Core.List.{List, ◌++◌, map, append-nil}
 use native.Mathlib.Nat.{zero-add, mul_comm, mul-le-mul_right, div-add-mod'}
 use native.Mathlib.Omega.{arith}
 use native.Mathlib.Decide.{dec_lt}
-use lib.ListN.{length, get_or, drop, replicate, get_or-replicate, length-replicate, length-map, get_or-append}
-use lib.Seq.{sets, length-sets, ext_get_or, drop-length}
+use lib.ListN.{length, get_or, replicate, get_or-replicate, length-replicate, length-map}
+use lib.Seq.{ext_get_or, drop-length}
 use Rattle.rules.specs.Lists.{upto}
 use Rattle.rules.specs.Picture.{OUTSIDE}
 use Rattle.rules.specs.Calls.{store_after}
 use Rattle.rules.proofs.Ground.Lists.{length_upto, at_map, at_upto}
 use Rattle.rules.proofs.Islands.Pixels.{pixel_in_lem, column_in, row_in}
-use Rattle.store.proofs.Writes.{sets_front}
 use Rattle.layers.specs.Layers.{offset_x, offset_y, wide, high, mask_at, covers, last_over, layer_count, flattened}
 use Rattle.layers.specs.Painting.{SpanIs, LayerFits, Layered, OneAsks, OneMore, Painted, Whole}
 use Rattle.layers.specs.declared.Span.{Span}
+use Rattle.layers.specs.declared.Stamp.{Stamp}
 use Rattle.layers.proofs.Masks.{mask_rises}
 
 -- inside a span or beside it
@@ -30,7 +30,10 @@ split s x =
 
 module _ (ws masks : List ℕ) (width height i mask : ℕ) (old : List ℕ) (q : OneAsks ws masks width height i mask old) {cols rows : Span}
     (c : SpanIs (offset_x ws i) (wide ws i) width cols) (r : SpanIs (offset_y ws i) (high ws i) height rows) where
-  pub layer_fits : high ws i ≤ 4294967295 → LayerFits width cols rows (wide ws i) mask (length masks) (length old)
+  abbrev stamp : Stamp
+  stamp = record { cols = cols; rows = rows; across = wide ws i; mask = mask }
+
+  pub layer_fits : high ws i ≤ 4294967295 → LayerFits width stamp (length masks) (length old)
   unfolding mask_at
   layer_fits low =
       let d = mul-le-mul_right width r.on_side in
@@ -46,7 +49,7 @@ module _ (ws masks : List ℕ) (width height i mask : ℕ) (old : List ℕ) (q :
         own_low = omega (arith, r.on_layer);
       }
 
-  pub one_more : (new : List ℕ) → Layered masks width cols rows (wide ws i) mask i rows.count old new → OneMore ws masks width height i old new
+  pub one_more : (new : List ℕ) → Layered masks width stamp i rows.count old new → OneMore ws masks width height i old new
   one_more new l = record { long = l.long; each = λ x y h k. by_side x y h k (split cols x) (split rows y) }
     where
       by_side : (x y : ℕ) → x < width → y < height → ((cols.start ≤ x) × (x < cols.start + cols.count)) ⊎ ((x < cols.start) ⊎ (cols.start + cols.count ≤ x))
@@ -74,19 +77,14 @@ module _ (ws masks : List ℕ) (width height : ℕ) where
       })
 
   -- at first all pixels are OUTSIDE
-  pub none_painted : (old new : List ℕ) → length old ≡ width * height → new ≡ sets old 0 (replicate (length old) OUTSIDE) → Painted ws masks width height 0 new
+  pub none_painted : (old new : List ℕ) → length old ≡ width * height → new ≡ replicate (length old) OUTSIDE → Painted ws masks width height 0 new
   unfolding last_over
-  none_painted old new c e =
-      let filled : new ≡ replicate (length old) OUTSIDE ++ drop (length (replicate (length old) OUTSIDE)) old =
-      e ∙ sets_front old (replicate (length old) OUTSIDE) (omega (arith, length-replicate {A = ℕ} (length old) OUTSIDE)) in
-      record {
-        long = ap length e ∙ length-sets old 0 (replicate (length old) OUTSIDE) ∙ c;
-        each = λ x y h k.
-            let q : y * width + x < length old = rw c (pixel_in_lem width height x y h k) in
-            ap (λ (l : List ℕ). get_or l (y * width + x) 0) filled
-            ∙ get_or-append (replicate (length old) OUTSIDE) (drop (length (replicate (length old) OUTSIDE)) old) 0 (y * width + x) (omega (arith, length-replicate {A = ℕ} (length old) OUTSIDE))
-            ∙ get_or-replicate (length old) (y * width + x) OUTSIDE 0 q;
-      }
+  none_painted old new c e = record {
+    long = ap length e ∙ length-replicate (length old) OUTSIDE ∙ c;
+    each = λ x y h k.
+        let q : y * width + x < length old = rw c (pixel_in_lem width height x y h k) in
+        ap (λ (l : List ℕ). get_or l (y * width + x) 0) e ∙ get_or-replicate (length old) (y * width + x) OUTSIDE 0 q;
+  }
 
 -- all painted: the labels of the rules
 module _ (ws masks : List ℕ) (width height : ℕ) where

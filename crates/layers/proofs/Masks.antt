@@ -1,54 +1,47 @@
 -- The checks of the masks.
-use Prim.Native.Nat.{ℕ, zero, suc, ◌+◌, ◌*◌, ◌-◌, ◌<◌, ◌≤◌}
+use Prim.Native.Nat.{ℕ, zero, suc, ◌+◌, ◌*◌, ◌-◌, ◌<◌, ◌≤◌, max}
 use mathlib.Core.Bool.{Bool, true, false, ◌||◌, or-true, or-false}
 use mathlib.Core.Path.{◌≡◌, refl, sym, ◌∙◌}
 use mathlib.Core.List.{List, [], ◌∷◌}
 use native.Mathlib.Omega.{arith}
 use native.Mathlib.Decide.{ℕ_discrete, dec_lt}
-use native.Mathlib.Numerals.{add-one}
 use borrow.Author.Tests.{lt-ltb, le-ltb, eq-eqb, ne_eqb}
 use lib.Dec.{eqb, ltb}
-use lib.ListN.{length, get_or, drop}
-use lib.Seq.{drop-cons}
+use Rattle.std.specs.List.{fold}
 use Rattle.layers.specs.Layers.{wide, high, mask_at, above_one}
 
 -- BYTES
 
-module _ (a b : ℕ) where
-  pub one_higher : b ≤ a → ltb 1 a ≡ (ltb 1 a || ltb 1 b)
-  one_higher h =
-      elim (dec_lt 1 a) [
-        | yes k ↦ rw (lt-ltb 1 a k)
-        | no k ↦ rw (le-ltb 1 a (omega arith), le-ltb 1 b (omega arith))
-      ]
+above_max : (a b : ℕ) → ltb 1 (max a b) ≡ (ltb 1 a || ltb 1 b)
+above_max a b =
+    elim (dec_lt a b) [
+      | yes h ↦ (let m : max a b ≡ b = omega arith in rw m (other_higher h))
+      | no h ↦ (let m : max a b ≡ a = omega arith in rw m (one_higher (omega arith)))
+    ]
+  where
+    one_higher : b ≤ a → ltb 1 a ≡ (ltb 1 a || ltb 1 b)
+    one_higher h =
+        elim (dec_lt 1 a) [
+          | yes k ↦ rw (lt-ltb 1 a k)
+          | no k ↦ rw (le-ltb 1 a (omega arith), le-ltb 1 b (omega arith))
+        ]
 
-  pub other_higher : a < b → ltb 1 b ≡ (ltb 1 a || ltb 1 b)
-  other_higher h =
-      elim (dec_lt 1 b) [
-        | yes k ↦ rw (lt-ltb 1 b k, or-true)
-        | no k ↦ rw (le-ltb 1 a (omega arith), le-ltb 1 b (omega arith))
-      ]
+    other_higher : a < b → ltb 1 b ≡ (ltb 1 a || ltb 1 b)
+    other_higher h =
+        elim (dec_lt 1 b) [
+          | yes k ↦ rw (lt-ltb 1 b k, or-true)
+          | no k ↦ rw (le-ltb 1 a (omega arith), le-ltb 1 b (omega arith))
+        ]
 
-module _ (l : List ℕ) (i highest : ℕ) where
-  pub above_next : (higher : ℕ) → i < length l → ltb 1 higher ≡ (ltb 1 highest || ltb 1 (get_or l i 0))
-      → (ltb 1 highest || above_one (drop i l)) ≡ (ltb 1 higher || above_one (drop (i + 1) l))
-  unfolding above_one
-  above_next higher h e = rw (e, add-one, drop-cons l i 0 h) (go (ltb 1 highest) (ltb 1 (get_or l i 0)))
-    where
-      go : (p q : Bool) → (p || elim q [ true ↦ true | false ↦ above_one (drop (suc i) l) ]) ≡ ((p || q) || above_one (drop (suc i) l))
-      go true q = refl
-      go false true = refl
-      go false false = refl
-
-  pub above_end : length l ≤ i → (ltb 1 highest || above_one (drop i l)) ≡ ltb 1 highest
-  unfolding above_one
-  above_end h = rw (none_left l i h, or-false)
-    where
-      none_left : (l : List ℕ) (i : ℕ) → length l ≤ i → above_one (drop i l) ≡ false
-      none_left [] zero h = refl
-      none_left [] (suc i) h = refl
-      none_left (a ∷ l) zero h = absurd (omega arith)
-      none_left (a ∷ l) (suc i) h = none_left l i (omega arith)
+pub above_fold : (highest : ℕ) (l : List ℕ) → ltb 1 (fold max highest l) ≡ (ltb 1 highest || above_one l)
+unfolding above_one
+above_fold highest [] = sym (or-false (ltb 1 highest))
+above_fold highest (b ∷ l) = above_fold (max highest b) l ∙ rw (above_max highest b) (go (ltb 1 highest) (ltb 1 b))
+  where
+    go : (p q : Bool) → ((p || q) || above_one l) ≡ (p || elim q [ true ↦ true | false ↦ above_one l ])
+    go true q = refl
+    go false true = refl
+    go false false = refl
 
 -- MASKS
 

@@ -12,7 +12,7 @@ use lib.ListN.{length, get_or, set, length-set}
 use lib.Seq.{get_or-set_same, get_or-set_other}
 use Rattle.rules.proofs.Islands.Pixels.{pixel_in_lem}
 use Rattle.layers.specs.Painting.{Rowed, LayerFits, Layered}
-use Rattle.layers.specs.declared.Span.{Span}
+use Rattle.layers.specs.declared.Stamp.{Stamp}
 
 -- A ROW
 
@@ -50,69 +50,69 @@ module _ (masks : List ℕ) (to from number : ℕ) (old : List ℕ) where
 row_above : (width x y z : ℕ) → x < width → y < z → y * width + x < z * width
 row_above width x y z h k = rw (mul_comm z width) (pixel_in_lem width z x y h k)
 
-module _ {width : ℕ} {cols rows : Span} {w mask bytes pixels : ℕ} (f : LayerFits width cols rows w mask bytes pixels) (k : ℕ) (h : k < rows.count) where
-  pub to_fits : (rows.start + k) * width + cols.start + cols.count ≤ pixels
+module _ {width : ℕ} {s : Stamp} {bytes pixels : ℕ} (f : LayerFits width s bytes pixels) (k : ℕ) (h : k < s.rows.count) where
+  pub to_fits : (s.rows.start + k) * width + s.cols.start + s.cols.count ≤ pixels
   to_fits =
-      let r = mul-le-mul_right {m = suc (rows.start + k)} {n = rows.start + rows.count} width (omega arith) in
-      omega (arith, suc-mul (rows.start + k) width, f.across, f.down)
+      let r = mul-le-mul_right {m = suc (s.rows.start + k)} {n = s.rows.start + s.rows.count} width (omega arith) in
+      omega (arith, suc-mul (s.rows.start + k) width, f.across, f.down)
 
-  pub from_fits : mask + ((rows.skip + k) * w + cols.skip) + cols.count ≤ bytes
+  pub from_fits : s.mask + ((s.rows.skip + k) * s.across + s.cols.skip) + s.cols.count ≤ bytes
   from_fits =
-      let r = mul-le-mul_right {m = suc (rows.skip + k)} {n = rows.skip + rows.count} w (omega arith) in
-      omega (arith, suc-mul (rows.skip + k) w, f.own, f.masked)
+      let r = mul-le-mul_right {m = suc (s.rows.skip + k)} {n = s.rows.skip + s.rows.count} s.across (omega arith) in
+      omega (arith, suc-mul (s.rows.skip + k) s.across, f.own, f.masked)
 
-module _ (masks : List ℕ) (width : ℕ) (cols rows : Span) (w mask number : ℕ) (old : List ℕ) where
-  pub layer_none : Layered masks width cols rows w mask number 0 old old
+module _ (masks : List ℕ) (width : ℕ) (s : Stamp) (number : ℕ) (old : List ℕ) where
+  pub layer_none : Layered masks width s number 0 old old
   layer_none = record { long = refl; inside = λ x y a b c d. absurd (omega arith); outside = λ x y h o. refl }
 
-  pub layer_blank : (k : ℕ) → cols.count ≡ 0 → Layered masks width cols rows w mask number k old old
+  pub layer_blank : (k : ℕ) → s.cols.count ≡ 0 → Layered masks width s number k old old
   layer_blank k z = record { long = refl; inside = λ x y a b c d. absurd (omega arith); outside = λ x y h o. refl }
 
-  pub layer_more : (k : ℕ) (new new' : List ℕ) → cols.start + cols.count ≤ width → Layered masks width cols rows w mask number k old new
-      → Rowed masks ((rows.start + k) * width + cols.start) (mask + ((rows.skip + k) * w + cols.skip)) cols.count number new new'
-      → Layered masks width cols rows w mask number (k + 1) old new'
+  pub layer_more : (k : ℕ) (new new' : List ℕ) → s.cols.start + s.cols.count ≤ width → Layered masks width s number k old new
+      → Rowed masks ((s.rows.start + k) * width + s.cols.start) (s.mask + ((s.rows.skip + k) * s.across + s.cols.skip)) s.cols.count number new new'
+      → Layered masks width s number (k + 1) old new'
   layer_more k new new' fits l r = record {
     long = r.long ∙ l.long;
-    inside = λ x y a b c d. elim (ℕ_discrete y (rows.start + k)) [
+    inside = λ x y a b c d. elim (ℕ_discrete y (s.rows.start + k)) [
       | yes z ↦ this_row x y a b z
-      | no z ↦ r.outside (y * width + x) (inl (let q = row_above width x y (rows.start + k) (omega arith) (omega arith) in omega arith)) ∙ l.inside x y a b c (omega arith)
+      | no z ↦ r.outside (y * width + x) (inl (let q = row_above width x y (s.rows.start + k) (omega arith) (omega arith) in omega arith)) ∙ l.inside x y a b c (omega arith)
     ];
-    outside = λ x y h o. elim (ℕ_discrete y (rows.start + k)) [
+    outside = λ x y h o. elim (ℕ_discrete y (s.rows.start + k)) [
       | yes z ↦ r.outside (y * width + x) (beside x y z o) ∙ l.outside x y h (inr (inr (omega arith)))
       | no z ↦ r.outside (y * width + x) (apart x y h z) ∙ l.outside x y h (less x y z o)
     ];
   }
     where
-      this_row : (x y : ℕ) → cols.start ≤ x → x < cols.start + cols.count → y ≡ rows.start + k
+      this_row : (x y : ℕ) → s.cols.start ≤ x → x < s.cols.start + s.cols.count → y ≡ s.rows.start + k
           → get_or new' (y * width + x) 0
-          ≡ cond (eqb (get_or masks (mask + ((rows.skip + (y - rows.start)) * w + (cols.skip + (x - cols.start)))) 0) 1) number (get_or old (y * width + x) 0)
+          ≡ cond (eqb (get_or masks (s.mask + ((s.rows.skip + (y - s.rows.start)) * s.across + (s.cols.skip + (x - s.cols.start)))) 0) 1) number (get_or old (y * width + x) 0)
       this_row x y a b z =
-          let i : y * width + x ≡ (rows.start + k) * width + cols.start + (x - cols.start) = ap (λ (v : ℕ). v * width + x) z ∙ omega arith in
-          let v : rows.skip + (y - rows.start) ≡ rows.skip + k = omega arith in
-          let j : mask + ((rows.skip + k) * w + cols.skip) + (x - cols.start) ≡ mask + ((rows.skip + (y - rows.start)) * w + (cols.skip + (x - cols.start))) =
+          let i : y * width + x ≡ (s.rows.start + k) * width + s.cols.start + (x - s.cols.start) = ap (λ (v : ℕ). v * width + x) z ∙ omega arith in
+          let v : s.rows.skip + (y - s.rows.start) ≡ s.rows.skip + k = omega arith in
+          let j : s.mask + ((s.rows.skip + k) * s.across + s.cols.skip) + (x - s.cols.start) ≡ s.mask + ((s.rows.skip + (y - s.rows.start)) * s.across + (s.cols.skip + (x - s.cols.start))) =
           rw v (omega arith) in
-          ap (λ (q : ℕ). get_or new' q 0) i ∙ r.inside (x - cols.start) (omega arith)
+          ap (λ (q : ℕ). get_or new' q 0) i ∙ r.inside (x - s.cols.start) (omega arith)
           ∙ ap₂ (λ (p q : ℕ). cond (eqb (get_or masks p 0) 1) number (get_or new q 0)) j (sym i)
-          ∙ ap (λ (q : ℕ). cond (eqb (get_or masks (mask + ((rows.skip + (y - rows.start)) * w + (cols.skip + (x - cols.start)))) 0) 1) number q)
+          ∙ ap (λ (q : ℕ). cond (eqb (get_or masks (s.mask + ((s.rows.skip + (y - s.rows.start)) * s.across + (s.cols.skip + (x - s.cols.start)))) 0) 1) number q)
           (l.outside x y (omega arith) (inr (inr (omega arith))))
 
-      beside : (x y : ℕ) → y ≡ rows.start + k → ((x < cols.start) ⊎ (cols.start + cols.count ≤ x)) ⊎ ((y < rows.start) ⊎ (rows.start + (k + 1) ≤ y))
-          → (y * width + x < (rows.start + k) * width + cols.start) ⊎ ((rows.start + k) * width + cols.start + cols.count ≤ y * width + x)
+      beside : (x y : ℕ) → y ≡ s.rows.start + k → ((x < s.cols.start) ⊎ (s.cols.start + s.cols.count ≤ x)) ⊎ ((y < s.rows.start) ⊎ (s.rows.start + (k + 1) ≤ y))
+          → (y * width + x < (s.rows.start + k) * width + s.cols.start) ⊎ ((s.rows.start + k) * width + s.cols.start + s.cols.count ≤ y * width + x)
       beside x y z (inl (inl o)) = let e = ap (λ (v : ℕ). v * width) z in inl (omega arith)
       beside x y z (inl (inr o)) = let e = ap (λ (v : ℕ). v * width) z in inr (omega arith)
       beside x y z (inr (inl o)) = absurd (omega arith)
       beside x y z (inr (inr o)) = absurd (omega arith)
 
-      apart : (x y : ℕ) → x < width → (y ≡ rows.start + k → ⊥)
-          → (y * width + x < (rows.start + k) * width + cols.start) ⊎ ((rows.start + k) * width + cols.start + cols.count ≤ y * width + x)
+      apart : (x y : ℕ) → x < width → (y ≡ s.rows.start + k → ⊥)
+          → (y * width + x < (s.rows.start + k) * width + s.cols.start) ⊎ ((s.rows.start + k) * width + s.cols.start + s.cols.count ≤ y * width + x)
       apart x y h z =
-          elim (dec_lt y (rows.start + k)) [
-            | yes b ↦ inl (let q = row_above width x y (rows.start + k) h b in omega arith)
-            | no b ↦ inr (let q = mul-le-mul_right {m = suc (rows.start + k)} {n = y} width (omega arith) in omega (arith, suc-mul (rows.start + k) width))
+          elim (dec_lt y (s.rows.start + k)) [
+            | yes b ↦ inl (let q = row_above width x y (s.rows.start + k) h b in omega arith)
+            | no b ↦ inr (let q = mul-le-mul_right {m = suc (s.rows.start + k)} {n = y} width (omega arith) in omega (arith, suc-mul (s.rows.start + k) width))
           ]
 
-      less : (x y : ℕ) → (y ≡ rows.start + k → ⊥) → ((x < cols.start) ⊎ (cols.start + cols.count ≤ x)) ⊎ ((y < rows.start) ⊎ (rows.start + (k + 1) ≤ y))
-          → ((x < cols.start) ⊎ (cols.start + cols.count ≤ x)) ⊎ ((y < rows.start) ⊎ (rows.start + k ≤ y))
+      less : (x y : ℕ) → (y ≡ s.rows.start + k → ⊥) → ((x < s.cols.start) ⊎ (s.cols.start + s.cols.count ≤ x)) ⊎ ((y < s.rows.start) ⊎ (s.rows.start + (k + 1) ≤ y))
+          → ((x < s.cols.start) ⊎ (s.cols.start + s.cols.count ≤ x)) ⊎ ((y < s.rows.start) ⊎ (s.rows.start + k ≤ y))
       less x y z (inl o) = inl o
       less x y z (inr (inl o)) = inr (inl o)
       less x y z (inr (inr o)) = inr (inr (omega arith))

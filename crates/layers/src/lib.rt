@@ -1,31 +1,28 @@
 // A map from layers: the last layer with a 1 over a pixel gives it its label (the Rust's `LabelMap::from_segmentation`).
 #![tactic(auto)]
 
-ghost use Rattle.std.specs.Prelude.{◌≡◌, cond, ◌||◌, ◌+◌, ◌*◌, ◌<◌, ◌≤◌, eqb, ltb, length};
+ghost use Rattle.std.specs.Prelude.{◌≡◌, cond, ◌+◌, ◌*◌, ◌<◌, ◌≤◌, eqb, fold, length, max};
 ghost use Rattle.rules.specs.Calls.{first_hit};
+ghost use Rattle.rules.specs.Refusals.{number_in};
 ghost use Rattle.layers.specs.Layers.{wide, high, mask_at, above_one, layer_checks, flatten as flatten_of};
 ghost use Rattle.layers.specs.Painting.{SpanIs, Rowed, LayerFits, Layered, OneAsks, OneMore, Whole, Painted, flat};
 
+use rules::Refusal;
+
 // CHECKS
 
-// The higher of two bytes.
-fn higher(a: u8, b: u8) -> u8
-    ensures { ltb 1 result ≡ (ltb 1 a || ltb 1 b) }
+// The highest byte. It reads on past a byte above 1: without a way out of the loop, many bytes are compared at once.
+fn highest(masks: &[u8]) -> u8
+    ensures { result ≡ fold max 0 masks.now }
 {
-    if a < b { b } else { a }
+    masks.iter().fold(0u8, |highest, byte| highest.max(*byte))
 }
 
-// A byte is above 1. It reads on past such a byte: without a way out of the loop, many bytes are compared at once.
+// A byte is above 1.
 fn above_one(masks: &[u8]) -> bool
     ensures { result ≡ above_one masks.now }
 {
-    let mut highest: u8 = 0;
-    let mut i: usize = 0;
-    while i < masks.len() {
-        highest = higher(highest, masks[i]);
-        i += 1;
-    }
-    1 < highest
+    1 < highest(masks)
 }
 
 // The mask bytes of the layer i.
@@ -42,14 +39,12 @@ fn masks_whole(layers: &[u32], count: usize, bytes: usize) -> bool
     ensures { result ≡ eqb (mask_at layers.now count) bytes }
 {
     let mut left = bytes;
-    let mut i: usize = 0;
-    while i < count {
+    for i in 0..count {
         let a = area(layers, i);
         if left < a {
             return false;
         }
         left -= a;
-        i += 1;
     }
     left == 0
 }
@@ -64,6 +59,12 @@ struct Span {
     count: usize,
 }
 
+const NOTHING: Span = Span {
+    start: 0,
+    skip: 0,
+    count: 0,
+};
+
 fn clipped(word: u32, n: u32, side: u32) -> Span
     ensures { SpanIs word n side result }
 {
@@ -73,44 +74,22 @@ fn clipped(word: u32, n: u32, side: u32) -> Span
     if raised < 2147483648 {
         let skip = 2147483648 - raised;
         if own <= skip {
-            return Span {
-                start: 0,
-                skip: 0,
-                count: 0,
-            };
-        }
-        if own - skip < across {
-            return Span {
-                start: 0,
-                skip,
-                count: own - skip,
-            };
+            return NOTHING;
         }
         return Span {
             start: 0,
             skip,
-            count: across,
+            count: across.min(own - skip),
         };
     }
     let start = raised - 2147483648;
     if across <= start {
-        return Span {
-            start: 0,
-            skip: 0,
-            count: 0,
-        };
-    }
-    if own < across - start {
-        return Span {
-            start,
-            skip: 0,
-            count: own,
-        };
+        return NOTHING;
     }
     Span {
         start,
         skip: 0,
-        count: across - start,
+        count: own.min(across - start),
     }
 }
 
@@ -127,40 +106,37 @@ fn paint_row(labels: &mut [u32], masks: &[u8], to: usize, from: usize, n: usize,
     requires { (to + n ≤ length labels.old) × (from + n ≤ length masks.now) }
     ensures { Rowed masks.now to from n number labels.old labels.new }
 {
-    let mut k: usize = 0;
-    while k < n {
+    for k in 0..n {
         labels[to + k] = over(masks[from + k], number, labels[to + k]);
-        k += 1;
     }
 }
 
-// What of a layer lies over the canvas, its mask w bytes across from the byte `mask` on.
-fn paint_layer(
-    labels: &mut [u32],
-    masks: &[u8],
-    width: u32,
+// What of a layer lies over the canvas, and its mask: `across` bytes to a row, from the byte `mask` on.
+#[derive(Clone, Copy)]
+struct Stamp {
     cols: Span,
     rows: Span,
-    w: u32,
+    across: u32,
     mask: usize,
-    number: u32,
-)
-    requires { LayerFits width cols rows w mask (length masks.now) (length labels.old) }
-    ensures { Layered masks.now width cols rows w mask number rows.count labels.old labels.new }
+}
+
+fn paint_layer(labels: &mut [u32], masks: &[u8], width: u32, stamp: Stamp, number: u32)
+    requires { LayerFits width stamp (length masks.now) (length labels.old) }
+    ensures { Layered masks.now width stamp number stamp.rows.count labels.old labels.new }
 {
-    let across = width as usize;
-    let own = w as usize;
-    let n = cols.count;
-    let last = rows.count;
-    if n == 0 {
+    let Stamp {
+        cols,
+        rows,
+        across,
+        mask,
+    } = stamp;
+    if cols.count == 0 {
         return;
     }
-    let mut k: usize = 0;
-    while k < last {
-        let to = (rows.start + k) * across + cols.start;
-        let from = mask + ((rows.skip + k) * own + cols.skip);
-        paint_row(labels, masks, to, from, n, number);
-        k += 1;
+    for k in 0..rows.count {
+        let to = (rows.start + k) * (width as usize) + cols.start;
+        let from = mask + ((rows.skip + k) * (across as usize) + cols.skip);
+        paint_row(labels, masks, to, from, cols.count, number);
     }
 }
 
@@ -181,9 +157,13 @@ fn paint_one(
     let y = store::at(layers, 4 * i + 1);
     let w = store::at(layers, 4 * i + 2);
     let h = store::at(layers, 4 * i + 3);
-    let cols = clipped(x, w, width);
-    let rows = clipped(y, h, height);
-    paint_layer(labels, masks, width, cols, rows, w, mask, i as u32);
+    let stamp = Stamp {
+        cols: clipped(x, w, width),
+        rows: clipped(y, h, height),
+        across: w,
+        mask,
+    };
+    paint_layer(labels, masks, width, stamp, i as u32);
 }
 
 // All layers, one after the other, over a canvas of OUTSIDE.
@@ -191,53 +171,50 @@ fn paint(width: u32, height: u32, layers: &[u32], masks: &[u8], labels: &mut [u3
     requires { Whole layers.now masks.now width height count labels.old }
     ensures { Painted layers.now masks.now width height count labels.new }
 {
-    store::fill(labels, 0, labels.len(), lattice::OUTSIDE);
+    labels.fill(lattice::OUTSIDE);
     let mut mask: usize = 0;
-    let mut i: usize = 0;
-    while i < count {
+    for i in 0..count {
         paint_one(width, height, layers, masks, labels, i, mask);
         mask += area(layers, i);
-        i += 1;
     }
 }
 
-// The number of the first check that hits, or 0.
+// The first check that hits.
 #[tactic(auto, using(crate::proofs::Refusals::each_check))]
-fn check(width: u32, height: u32, layers: &[u32], masks: &[u8], labels: &[u32]) -> u32
-    ensures { result ≡ first_hit (layer_checks width height layers.now masks.now labels.now) }
+fn check(
+    width: u32,
+    height: u32,
+    layers: &[u32],
+    masks: &[u8],
+    labels: &[u32],
+) -> Result<(), Refusal>
+    ensures { number_in result ≡ first_hit (layer_checks width height layers.now masks.now labels.now) }
 {
-    if 16384 < width {
-        return 1;
+    if 16384 < width || 16384 < height {
+        return Err(Refusal::LongSide);
     }
-    if 16384 < height {
-        return 1;
+    if 65535 < layers.len() / 4
+        || layers.len() % 4 != 0
+        || !masks_whole(layers, layers.len() / 4, masks.len())
+        || above_one(masks)
+        || labels.len() != (width as usize) * (height as usize)
+    {
+        return Err(Refusal::BadLayers);
     }
-    if 65535 < layers.len() / 4 {
-        return 11;
-    }
-    if layers.len() % 4 != 0 {
-        return 11;
-    }
-    if !masks_whole(layers, layers.len() / 4, masks.len()) {
-        return 11;
-    }
-    if above_one(masks) {
-        return 11;
-    }
-    if labels.len() != (width as usize) * (height as usize) {
-        return 11;
-    }
-    0
+    Ok(())
 }
 
-// THE CALL: the labels of the canvas; the paint count is the number of layers. It answers its number alone.
-pub fn flatten(width: u32, height: u32, layers: &[u32], masks: &[u8], labels: &mut [u32]) -> u32
-    ensures { flat result labels.new ≡ flatten_of width height layers.now masks.now labels.old }
+// THE CALL: the labels of the canvas; the paint count is the number of layers.
+pub fn flatten(
+    width: u32,
+    height: u32,
+    layers: &[u32],
+    masks: &[u8],
+    labels: &mut [u32],
+) -> Result<(), Refusal>
+    ensures { flat (number_in result) labels.new ≡ flatten_of width height layers.now masks.now labels.old }
 {
-    let number = check(width, height, layers, masks, labels);
-    if number != 0 {
-        return number;
-    }
+    check(width, height, layers, masks, labels)?;
     paint(width, height, layers, masks, labels, layers.len() / 4);
-    0
+    Ok(())
 }

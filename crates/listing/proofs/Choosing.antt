@@ -87,14 +87,14 @@ module _ {s : Size} {ls : List ℕ} (M : Map s ls) (b : s.paints ≤ OUTSIDE) wh
       long₂ : length work₂ ≡ length work₀
       long₂ = l.changed.long ∙ g.kept.long
 
-      pub unsorted : Unsorted (6 * C) (7 * C) m work₂
+      pub unsorted : Unsorted (6 * C) m work₂
       unsorted = record {
-        two = record { apart = omega (arith, few, pixels_in); room = omega (arith, few, pixels_in, room, long₂) };
+        room = omega (arith, few, pixels_in, room, long₂);
         once = rw listed₂ (firsts_all P s.paints).second;
       }
 
       -- sorted
-      module _ {work₃ : List ℕ} (o : InOrder ls (6 * C) (7 * C) m work₂ work₃) where
+      module _ {work₃ : List ℕ} (o : InOrder ls (6 * C) m work₂ work₃) where
         abbrev fp : List ℕ
         fp = first_pixels P s.paints
 
@@ -121,12 +121,12 @@ module _ {s : Size} {ls : List ℕ} (M : Map s ls) (b : s.paints ≤ OUTSIDE) wh
         ]
 
         pub fillable : 7 * C + m ≤ length work₃
-        fillable = omega (arith, few, pixels_in, room, long₂, o.long)
+        fillable = omega (arith, few, pixels_in, room, long₂, o.kept.long)
 
         -- without a mark
         module _ {work₄ : List ℕ} (e₄ : work₄ ≡ sets work₃ (7 * C) (replicate m 0)) where
           long₄ : length work₄ ≡ length work₀
-          long₄ = ap length e₄ ∙ length-sets work₃ (7 * C) (replicate m 0) ∙ o.long ∙ long₂
+          long₄ = ap length e₄ ∙ length-sets work₃ (7 * C) (replicate m 0) ∙ o.kept.long ∙ long₂
 
           before₄ : (i : ℕ) → i < 7 * C → get_or work₄ i 0 ≡ get_or work₃ i 0
           before₄ i h = ap (λ (w : List ℕ). get_or w i 0) e₄ ∙ sets_before work₃ (7 * C) (replicate m 0) i h
@@ -203,14 +203,14 @@ module _ {s : Size} {ls : List ℕ} (M : Map s ls) (b : s.paints ≤ OUTSIDE) wh
               same₅ i h j = u.others i (inl j) (λ p y e. omega (arith, low p y, pixels_in))
 
               same₂ : (i : ℕ) → i < 6 * C → get_or work₅ i 0 ≡ get_or work₂ i 0
-              same₂ i h = before₅ i (omega arith) ∙ o.others i (inl h)
+              same₂ i h = before₅ i (omega arith) ∙ o.kept.others i (inl h)
 
               behind : (i : ℕ) → 8 * C ≤ i → get_or work₆ i 0 ≡ get_or work₀ i 0
               behind i h =
                   u.others i (inr (omega (arith, few, pixels_in))) (λ p y e. omega (arith, low p y, pixels_in))
                   ∙ k.kept.others i (inr (omega (arith, few, pixels_in)))
                   ∙ ap (λ (w : List ℕ). get_or w i 0) e₄ ∙ sets_after work₃ (7 * C) (replicate m 0) i (omega (arith, few, pixels_in, length-replicate {A = ℕ} m 0))
-                  ∙ o.others i (inr (inr (omega (arith, few, pixels_in))))
+                  ∙ o.kept.others i (inr (omega (arith, few, pixels_in)))
                   ∙ l.changed.others i (inr (omega (arith, M.count, pixels_in))) (inr (omega (arith, M.count, pixels_in)))
                   ∙ g.kept.others i (inr (omega (arith, pixels_in)))
 

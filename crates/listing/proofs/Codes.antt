@@ -1,9 +1,10 @@
 -- The word of a step east or south, and back.
 use Prim.Native.Nat.{suc, ◌+◌, ◌/◌, ◌%◌, ◌<◌, ◌≤◌}
-use mathlib.Core.Path.{◌≡◌, ap, ◌∙◌}
+use mathlib.Core.Path.{◌≡◌, refl, ap, ◌∙◌}
 use mathlib.Core.Logic.{◌⊎◌, inl, inr}
 use native.Mathlib.Omega.{arith}
 use Rattle.rules.specs.Picture.{code, Dart}
+use Rattle.rules.specs.declared.Dir.TheVariants.{E, S}
 use Rattle.rules.proofs.Islands.Pixels.{pixel_mod, pixel_div}
 use Rattle.benches.proofs.Scan.{EastSouth}
 use Rattle.lattice.specs.declared.Size.{Size}
@@ -14,26 +15,19 @@ use Rattle.lattice.specs.Walker.{dart_of}
 use Rattle.lattice.proofs.Ways.{dir_code}
 use Rattle.listing.specs.Starts.{start_of, code_of, Forth}
 
-pub forth_way : (s : Size) (w : Walker) → Forth s w → EastSouth (dart_of w).d
-forth_way s w f = go f.way
+pub forth_code : (s : Size) (w : Walker) → Forth s w → (1 ≤ code w.d) × (code w.d ≤ 2)
+forth_code s w f = go f.way
   where
-    go : (w.d ≡ 1) ⊎ (w.d ≡ 2) → EastSouth (dir w.d)
-    go (inl e) = inl (ap dir e)
-    go (inr e) = inr (ap dir e)
-
-pub forth_small : (s : Size) (w : Walker) → Forth s w → (1 ≤ w.d) × (w.d ≤ 2)
-forth_small s w f = go f.way
-  where
-    go : (w.d ≡ 1) ⊎ (w.d ≡ 2) → (1 ≤ w.d) × (w.d ≤ 2)
-    go (inl e) = (omega arith, omega arith)
-    go (inr e) = (omega arith, omega arith)
+    go : (w.d ≡ E) ⊎ (w.d ≡ S) → (1 ≤ code w.d) × (code w.d ≤ 2)
+    go (inl e) = let z : code w.d ≡ 1 = ap code e in (omega arith, omega arith)
+    go (inr e) = let z : code w.d ≡ 2 = ap code e in (omega arith, omega arith)
 
 -- a step as a walker
 abbrev pub walker_of : Dart → Walker
-walker_of a = record { x = a.x; y = a.y; d = code a.d }
+walker_of a = record { x = a.x; y = a.y; d = a.d }
 
 pub walker_dart : (a : Dart) → dart_of (walker_of a) ≡ a
-walker_dart a = λ i. record { x = a.x; y = a.y; d = dir_code a.d i }
+walker_dart a = refl
 
 way_code : (a : Dart) → EastSouth a.d → (1 ≤ code a.d) × (code a.d ≤ 2)
 way_code a (inl e) = let z : code a.d ≡ 1 = ap code e in (omega arith, omega arith)
@@ -49,4 +43,5 @@ start_is s a h d =
     let u : code_of s a / 2 % (s.width + 1) ≡ a.x = ap (λ n. n % (s.width + 1)) half ∙ pixel_mod (s.width + 1) (suc a.y) a.x a.y x y in
     let v : code_of s a / 2 / (s.width + 1) ≡ a.y = ap (λ n. n / (s.width + 1)) half ∙ pixel_div (s.width + 1) (suc a.y) a.x a.y x y in
     let w : 1 + code_of s a % 2 ≡ code a.d = omega arith in
-    λ i. record { x = u i; y = v i; d = w i }
+    let z : dir (1 + code_of s a % 2) ≡ a.d = ap dir w ∙ dir_code a.d in
+    λ i. record { x = u i; y = v i; d = z i }

@@ -14,7 +14,8 @@ use native.Mathlib.Omega.{arith}
 use lib.ListN.{length, get_or, set, length-set, length-append, length-map}
 use lib.Seq.{get_or-set_same, get_or-set_other}
 use Rattle.rules.specs.Lists.{flat, among}
-use Rattle.rules.specs.Picture.{Picture, picture, OUTSIDE, E, Dart, dart, left, crack}
+use Rattle.rules.specs.Picture.{Picture, picture, OUTSIDE, Dart, dart, left, crack}
+use Rattle.rules.specs.declared.Dir.TheVariants.{E}
 use Rattle.rules.specs.Face.{label_of, beside, island, turn}
 use Rattle.rules.specs.Records.{NONE}
 use Rattle.rules.proofs.Ground.Lists.{flat_snoc, among_in, not_among}
@@ -36,7 +37,6 @@ use Rattle.lattice.specs.declared.Walker.{Walker}
 use Rattle.lattice.specs.Size.{Corner, pic}
 use Rattle.lattice.specs.Planes.{plane}
 use Rattle.lattice.specs.Around.{around_of, left_in, crack_in}
-use Rattle.lattice.specs.Dirs.{dir}
 use Rattle.lattice.specs.Walker.{dart_of}
 use Rattle.lattice.proofs.Ways.{left_in_lem, crack_in_lem}
 use Rattle.lattice.proofs.Frame.{framed}
@@ -54,11 +54,11 @@ use Rattle.listing.proofs.Rows.{row_over, none_first}
 
 -- the labels beside a step, by those around its corner
 module _ (P : Picture) (w : Walker) {a : Around} (looks : a ≡ around_of P w.x w.y) where
-  pub left_of_lem : {l : ℕ} → l ≡ left_in a (dir w.d) → left P (dart_of w) ≡ l
-  left_of_lem e = sym (e ∙ ap (λ (a : Around). left_in a (dir w.d)) looks ∙ left_in_lem P w.x w.y (dir w.d))
+  pub left_of_lem : {l : ℕ} → l ≡ left_in a w.d → left P (dart_of w) ≡ l
+  left_of_lem e = sym (e ∙ ap (λ (a : Around). left_in a w.d) looks ∙ left_in_lem P w.x w.y w.d)
 
-  pub crack_of : {r : Bool} → r ≡ crack_in a (dir w.d) → crack P (dart_of w) ≡ r
-  crack_of e = sym (e ∙ ap (λ (a : Around). crack_in a (dir w.d)) looks ∙ crack_in_lem P w.x w.y (dir w.d))
+  pub crack_of : {r : Bool} → r ≡ crack_in a w.d → crack P (dart_of w) ≡ r
+  crack_of e = sym (e ∙ ap (λ (a : Around). crack_in a w.d) looks ∙ crack_in_lem P w.x w.y w.d)
 
 -- loops that are found are loops of painted sides, so there are no more than corners
 found_loops : {P : Picture} {paints : ℕ} {names : List ℕ} {b : Dart} {starts : List Dart} → Found P paints names b starts → Loops P paints (loops P starts)
@@ -116,8 +116,8 @@ module _ {s : Size} {ls names work₀ : List ℕ} (r : Ready s ls names work₀)
     inside : left P a ≡ OUTSIDE → ⊥
     inside e = omega (arith, r.paints)
 
-    pub side_flanked : w.d < 4 → Flanked s w
-    side_flanked d = flanked s ls w r.map d c inside
+    pub side_flanked : Flanked s w
+    side_flanked = flanked s ls w r.map c inside
 
     pub isle_first : First P s.paints (island P a)
     isle_first = first_of_lem F s.paints (beside P a) (beside_in F a inside) (omega (arith, beside_label F a inside))
@@ -270,4 +270,4 @@ module _ {s : Size} {ls names work₀ : List ℕ} (r : Ready s ls names work₀)
       let z : suc y ≡ y + 1 = omega arith in
       let g : Finding s ls names work₀ (dart (suc s.width) y E) k work = subst (λ v. Finding s ls names work₀ (dart v y E) k work) e f in
       subst (λ v. Finding s ls names work₀ (dart 0 v E) k work) z
-      (same_found (record { x = suc s.width; y = y; d = 1 }) g (dart 0 (suc y) E) (row_over F y) (λ d v. absurd (let l = crack_x F (dart (suc s.width) y E) v.cracked in omega arith)))
+      (same_found (record { x = suc s.width; y = y; d = E }) g (dart 0 (suc y) E) (row_over F y) (λ d v. absurd (let l = crack_x F (dart (suc s.width) y E) v.cracked in omega arith)))

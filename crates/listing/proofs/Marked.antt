@@ -10,7 +10,9 @@ use native.Mathlib.Omega.{arith}
 use native.Mathlib.Decide.{ℕ_discrete}
 use lib.ListN.{length, get_or, set}
 use lib.Seq.{get_or-set_same, get_or-set_other}
-use Rattle.rules.specs.Picture.{Dir, N, E, S, W, Dart}
+use Rattle.rules.specs.Picture.{Dart}
+use Rattle.rules.specs.declared.Dir.{Dir}
+use Rattle.rules.specs.declared.Dir.TheVariants.{N, E, S, W}
 use Rattle.rules.proofs.Lattice.Darts.{dart_path}
 use Rattle.benches.proofs.Scan.{EastSouth}
 use Rattle.lattice.specs.declared.Size.{Size}

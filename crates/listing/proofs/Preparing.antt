@@ -10,7 +10,8 @@ use lib.ListN.{length, get_or, replicate, length-replicate, length-map}
 use lib.Seq.{sets}
 use borrow.Author.Tests.{eqb-true}
 use Rattle.rules.specs.Lists.{keep, flat, upto}
-use Rattle.rules.specs.Picture.{Picture, picture, E, Dart, dart, left, crack}
+use Rattle.rules.specs.Picture.{Picture, picture, Dart, dart, left, crack}
+use Rattle.rules.specs.declared.Dir.TheVariants.{E}
 use Rattle.rules.specs.Face.{no_dart, label_of, island}
 use Rattle.benches.specs.Listing.{loop_words, listing_of}
 use Rattle.rules.proofs.Ground.Lists.{in_at, upto_in, keep_in, keep_same, keep_few, length_upto, map_same, at_map}
@@ -30,7 +31,6 @@ use Rattle.lattice.specs.Planes.{plane}
 use Rattle.lattice.specs.Walker.{dart_of}
 use Rattle.lattice.proofs.Frame.{framed}
 use Rattle.lattice.proofs.Planes.{plane_low}
-use Rattle.lattice.proofs.Ways.{code_small}
 use Rattle.face.specs.Contours.{Starts}
 use Rattle.assemble.proofs.Lists.{keep_numbers}
 use Rattle.listing.specs.Starts.{start_of, code_of}
@@ -94,9 +94,6 @@ module _ {s : Size} {ls names work₀ : List ℕ} {n : ℕ} {work₁ : List ℕ}
       pub dart_is : dart_of w ≡ start j
       dart_is = ap dart_of walker_is ∙ walker_dart (start j)
 
-      way : w.d < 4
-      way = subst (λ (v : Walker). v.d < 4) (sym walker_is) (code_small (start j).d)
-
       cracked : crack P (dart_of w) ≡ true
       cracked = ap (crack P) dart_is ∙ its.1.cracked
 
@@ -118,7 +115,7 @@ module _ {s : Size} {ls names work₀ : List ℕ} {n : ℕ} {work₁ : List ℕ}
       sides = record { wide = r.map.wide; high = r.map.high };
       few = few;
       room = omega (arith, r.room, f.kept.long);
-      flanked = λ j h. side_flanked r (w j h) (cracked j h) (painted j h) (way j h);
+      flanked = λ j h. side_flanked r (w j h) (cracked j h) (painted j h);
       inside = isle_low;
       empty = λ j h. ap (head_in s work₃) (isle_is r (w j h) (cracked j h) (painted j h) f.kept) ∙ head_chosen r (w j h) (cracked j h) (painted j h) f.kept (subst (λ a. In (left P a) names) (sym (dart_is j h)) (its j h).1.named);
     }
@@ -198,7 +195,7 @@ module _ {s : Size} {ls names work₀ : List ℕ} {n : ℕ} {work₁ : List ℕ}
           begin = λ j m.
               let u = member j (subst (In j) chain_of_lem m) in
               subst (λ (v : Walker). Starts s ls v (get_or ls p 0)) (sym (same_start j u.0))
-              (record { map = r.map; way = way j u.0; crack = cracked j u.0; left = left_is j u.0 ∙ ap (label_of P) u.1 ∙ sym (own_label r.map r.paints p (named_first P s.paints names p i).first) });
+              (record { map = r.map; crack = cracked j u.0; left = left_is j u.0 ∙ ap (label_of P) u.1 ∙ sym (own_label r.map r.paints p (named_first P s.paints names p i).first) });
         }
 
       words : pieces_in s ls work₄ n ≡ words_of s ls names

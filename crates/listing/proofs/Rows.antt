@@ -5,7 +5,8 @@ use mathlib.Core.Bool.{true}
 use mathlib.Core.Logic.{◌⊎◌, inl, inr}
 use native.Mathlib.Omega.{arith}
 use native.Mathlib.Decide.{dec_lt}
-use Rattle.rules.specs.Picture.{Picture, E, S, code, Dart, dart, crack}
+use Rattle.rules.specs.Picture.{Picture, code, Dart, dart, crack}
+use Rattle.rules.specs.declared.Dir.TheVariants.{E, S}
 use Rattle.rules.proofs.Lattice.Frame.{Framed}
 use Rattle.rules.proofs.Lattice.Darts.{dart_path, crack_x, crack_y}
 use Rattle.benches.proofs.Earlier.{NoLater, by_y, by_x, by_d, Earlier}

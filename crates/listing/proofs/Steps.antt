@@ -1,12 +1,11 @@
 -- A contour written so far: its steps from behind the count on, and at its end the count.
 use Prim.Native.Nat.{ℕ, ◌+◌, ◌*◌, ◌≤◌}
 use mathlib.Core.Path.{◌≡◌, refl, ap, ◌∙◌}
-use mathlib.Core.Bool.{true, false}
 use mathlib.Core.List.{List, [], ◌∷◌, ◌++◌}
 use native.Mathlib.Omega.{arith}
 use lib.ListN.{length, set, length-append}
 use lib.Seq.{sets, length-sets}
-use Rattle.rules.specs.Picture.{Dart, same_dart}
+use Rattle.rules.specs.Picture.{Dart}
 use Rattle.rules.specs.Lists.{flat}
 use Rattle.benches.specs.Listing.{step_words}
 use Rattle.lattice.specs.declared.Size.{Size}
@@ -42,8 +41,8 @@ module _ {s : Size} {ls : List ℕ} {at : ℕ} {w : Walker} {region : ℕ} {out�
       one_more : n + 1 ≡ length (o.done ++ (dart_of c ∷ []))
       one_more = omega (arith, o.count, length-append o.done (dart_of c ∷ []))
 
-      pub goes_on : same_dart (dart_of c') (dart_of w) ≡ false → Sofar s ls at w region out₀ out' c' (n + 1)
+      pub goes_on : (c' ≡ w → ⊥) → Sofar s ls at w region out₀ out' c' (n + 1)
       goes_on e = record { done = o.done ++ (dart_of c ∷ []); round = going o.round t e; words = more; count = one_more }
 
-      pub is_over_lem : same_dart (dart_of c') (dart_of w) ≡ true → {out'' : List ℕ} → out'' ≡ set out' at (n + 1) → Contour s ls at w out₀ out'' (at + 1 + 3 * (n + 1))
+      pub is_over_lem : c' ≡ w → {out'' : List ℕ} → out'' ≡ set out' at (n + 1) → Contour s ls at w out₀ out'' (at + 1 + 3 * (n + 1))
       is_over_lem e {out''} q = let g = gone o.round t e in rw g (loop_put out' out₀ out'' at (n + 1) (o.done ++ (dart_of c ∷ [])) more one_more q)

@@ -1,5 +1,5 @@
 -- The words of steps and contours, as they are put one after the other.
-use Prim.Native.Nat.{ℕ, suc, ◌+◌, ◌*◌, ◌<◌}
+use Prim.Native.Nat.{ℕ, suc, ◌+◌, ◌*◌}
 use mathlib.Core.Path.{◌≡◌, sym, ap, ◌∙◌}
 use mathlib.Core.List.{List, [], ◌∷◌, ◌++◌, map, map-append}
 use native.Mathlib.Omega.{arith}
@@ -11,15 +11,7 @@ use Rattle.benches.specs.Listing.{step_words, loop_words}
 use Rattle.rules.proofs.Ground.Lists.{flat_snoc}
 use Rattle.benches.proofs.Lengths.{step_length}
 use Rattle.store.proofs.Writes.{sets_append, set_earlier}
-use Rattle.lattice.specs.declared.Walker.{Walker}
-use Rattle.lattice.specs.Walker.{dart_of}
-use Rattle.lattice.proofs.Ways.{code_dir}
 use Rattle.listing.specs.Writing.{Wrote}
-
--- ONE STEP
-pub step_put : (c : Walker) → c.d < 4 → (at : ℕ) (l m m' : List ℕ) → m ≡ sets l at (c.x ∷ c.y ∷ []) → m' ≡ set m (at + 2) c.d → m' ≡ sets l at (step_words (dart_of c))
-unfolding step_words
-step_put c h at l m m' e f = let z : at + 2 ≡ suc (suc at) = omega arith in f ∙ rw (e, code_dir c.d h, z)
 
 -- THE STEPS so far, from behind the count on
 abbrev pub steps_words : List Dart → List ℕ

@@ -1,6 +1,7 @@
 // The contours of the named islands, found in the order of their earliest steps, and strung by island.
 ghost use Rattle.std.specs.Prelude.{◌≡◌, suc, ◌+◌, ◌*◌, ◌<◌, ◌≤◌};
-ghost use Rattle.rules.specs.Picture.{Dart, dart, E};
+ghost use Rattle.rules.specs.Picture.{Dart, dart};
+ghost use Rattle.rules.specs.declared.Dir.TheVariants.{E};
 ghost use Rattle.benches.proofs.Scan.{Next};
 ghost use Rattle.lattice.specs.Size.{Sides, pic};
 ghost use Rattle.lattice.specs.Planes.{plane};
@@ -11,24 +12,24 @@ ghost use Rattle.listing.specs.Starts.{Forth};
 ghost use Rattle.listing.specs.Finding.{isle_at, Due, Finds, Threadable, Threads};
 
 use crate::{marks, starts};
+use face::contours::slot;
 use lattice::{NONE, Size, Walker};
+use rules::Dir;
 
 // The word of the mark of a step east or south.
 fn mark_at(s: Size, w: Walker) -> usize
-    requires fact_1 { Sides s }
-    requires fact_2 { Forth s w }
+    requires sides { Sides s }
+    requires forth { Forth s w }
     ensures { (result ≡ mark_in s (dart_of w)) × (result < 2 * plane s.width s.height) }
 {
-    if w.d == 1 {
-        return face::contours::slot(s, 0, w.x, w.y);
-    }
-    face::contours::slot(s, lattice::plane(s), w.x, w.y)
+    let at = if w.d == Dir::E { 0 } else { lattice::plane(s) };
+    slot(s, at, w.x, w.y)
 }
 
 // The first pixel of the island on the left of a step, by the numbers in plane 5.
 fn island(s: Size, work: &[u32], w: Walker) -> u32
-    requires fact_1 { Sides s }
-    requires fact_2 { Flanked s w }
+    requires sides { Sides s }
+    requires flanked { Flanked s w }
     ensures { result ≡ isle_at s work.now w }
 {
     let p = assemble::left_pixel(s, w);
@@ -38,42 +39,35 @@ fn island(s: Size, work: &[u32], w: Walker) -> u32
 // The contour that starts with w, if w is a side of a named island that no contour before has: its start is listed in plane 2, behind
 // the k that are there.
 fn visit(s: Size, labels: &[u32], work: &mut [u32], k: usize, w: Walker) -> usize
-    requires fact_1 { Due s labels.now (dart_of w) k work.old }
-    requires fact_2 { Forth s w }
+    requires due { Due s labels.now (dart_of w) k work.old }
+    requires forth { Forth s w }
     ensures { (b' : Dart) → Next (pic s labels.now) (dart_of w) b' → Finds s labels.now (dart_of w) k work.old b' result work.new }
 {
     let a = lattice::look(s, labels, w.x, w.y);
     let l = a.left(w.d);
-    if s.paints <= l.0 {
+    if s.paints <= l.0 || !a.crack(w.d) || work[mark_at(s, w)] != 0 {
         return k;
     }
-    if a.crack(w.d) {
-        if store::at(work, mark_at(s, w)) == 0 {
-            let plane = lattice::plane(s);
-            let f = island(s, work, w);
-            if store::get(work, 4 * plane + (f as usize)) != NONE {
-                marks::mark_contour(s, labels, work, w, l);
-                store::put(work, 2 * plane + k, starts::encode(s, w));
-                return k + 1;
-            }
-        }
+    let plane = lattice::plane(s);
+    let f = island(s, work, w);
+    if store::get(work, 4 * plane + (f as usize)) == NONE {
+        return k;
     }
-    k
+    marks::mark_contour(s, labels, work, w, l);
+    store::put(work, 2 * plane + k, starts::encode(s, w));
+    k + 1
 }
 
 // East and south along a row of corners.
 fn scan_row(s: Size, labels: &[u32], work: &mut [u32], k: usize, y: u32) -> usize
-    requires fact_1 { Due s labels.now (dart 0 y E) k work.old }
-    requires fact_2 { y ≤ s.height }
+    requires due { Due s labels.now (dart 0 y E) k work.old }
+    requires row { y ≤ s.height }
     ensures { Finds s labels.now (dart 0 y E) k work.old (dart 0 (y + 1) E) result work.new }
 {
-    let last = s.width;
     let mut n = k;
-    let mut x: u32 = 0;
-    while x <= last {
-        n = visit(s, labels, work, n, Walker { x, y, d: 1 });
-        n = visit(s, labels, work, n, Walker { x, y, d: 2 });
-        x += 1;
+    for x in 0..s.width + 1 {
+        n = visit(s, labels, work, n, Walker { x, y, d: Dir::E });
+        n = visit(s, labels, work, n, Walker { x, y, d: Dir::S });
     }
     n
 }
@@ -83,12 +77,9 @@ pub fn scan(s: Size, labels: &[u32], work: &mut [u32]) -> usize
     requires { Due s labels.now (dart 0 0 E) 0 work.old }
     ensures { Finds s labels.now (dart 0 0 E) 0 work.old (dart 0 (suc s.height) E) result work.new }
 {
-    let last = s.height;
     let mut n: usize = 0;
-    let mut y: u32 = 0;
-    while y <= last {
+    for y in 0..s.height + 1 {
         n = scan_row(s, labels, work, n, y);
-        y += 1;
     }
     n
 }
@@ -100,13 +91,11 @@ pub fn thread(s: Size, work: &mut [u32], count: usize)
     ensures { Threads s count work.old 0 work.new }
 {
     let plane = lattice::plane(s);
-    let mut k = count;
-    while 0 < k {
-        let w = starts::decode(s, store::get(work, 2 * plane + (k - 1)));
+    for k in (0..count).rev() {
+        let w = starts::decode(s, store::get(work, 2 * plane + k));
         let head = 4 * plane + (island(s, work, w) as usize);
         let first = store::get(work, head);
-        store::put(work, 3 * plane + (k - 1), first);
-        store::put(work, head, k as u32);
-        k -= 1;
+        store::put(work, 3 * plane + k, first);
+        store::put(work, head, k as u32 + 1);
     }
 }

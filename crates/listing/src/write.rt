@@ -7,17 +7,15 @@ ghost use Rattle.face.specs.Contours.{Starts};
 ghost use Rattle.listing.specs.Writing.{Contour, Strung, piece_in, Wrote, Planned, pieces_in};
 ghost use Rattle.listing.specs.Answers.{Answers};
 
-use crate::{Answer, starts};
+use crate::starts;
 use lattice::{RegionId, Size, Walker};
+use rules::Refusal;
 
 // x, y and direction of a step.
 fn put_step(listing: &mut [u32], at: usize, c: Walker)
-    requires fact_1 { c.d < 4 }
-    requires fact_2 { at ≤ 1099511627776 }
     ensures { listing.new ≡ sets listing.old at (step_words (dart_of c)) }
 {
-    store::put2(listing, at, c.x, c.y);
-    store::put(listing, at + 2, c.d);
+    store::put_all(listing, at, [c.x, c.y, c.d.code()]);
 }
 
 // The contour of w from `at` on: how many steps, and the steps. Where it ends.
@@ -29,8 +27,8 @@ fn write_contour(
     w: Walker,
     region: RegionId,
 ) -> usize
-    requires fact_1 { Starts s labels.now w region.0 }
-    requires fact_2 { at ≤ 8589934592 }
+    requires starts { Starts s labels.now w region.0 }
+    requires low { at ≤ 8589934592 }
     ensures { Contour s labels.now at w listing.old listing.new result }
 {
     let mut c = w;
@@ -41,7 +39,7 @@ fn write_contour(
         let m = c.moved();
         let a = lattice::look(s, labels, m.x, m.y);
         c = face::contours::turn(c, a, region);
-        if face::contours::same(c, w) {
+        if c == w {
             store::put(listing, at, n);
             return at + 1 + 3 * (n as usize);
         }
@@ -57,8 +55,8 @@ fn write_piece(
     at: usize,
     p: usize,
 ) -> usize
-    requires fact_1 { Strung s labels.now work.now p }
-    requires fact_2 { at + length (piece_in s labels.now work.now p) ≤ 8589934592 }
+    requires strung { Strung s labels.now work.now p }
+    requires low { at + length (piece_in s labels.now work.now p) ≤ 8589934592 }
     ensures { Wrote (piece_in s labels.now work.now p) at listing.old listing.new result }
 {
     let plane = lattice::plane(s);
@@ -66,13 +64,14 @@ fn write_piece(
     let mut end = at + 2;
     let mut n: u32 = 0;
     let mut k = store::get(work, 4 * plane + p) as usize;
+    // Kept, points 1 and 3: a chain in the work store (fixed memory), each contour's word the next one's number from 1 on, and 0 the end.
     while 0 < k {
         let w = starts::decode(s, store::get(work, 2 * plane + (k - 1)));
         end = write_contour(s, labels, listing, end, w, RegionId(region));
         n += 1;
         k = store::get(work, 3 * plane + (k - 1)) as usize;
     }
-    store::put2(listing, at, region, n);
+    store::put_all(listing, at, [region, n]);
     end
 }
 
@@ -83,11 +82,9 @@ pub fn write_pieces(s: Size, labels: &[u32], work: &[u32], listing: &mut [u32], 
 {
     let list = 6 * lattice::plane(s);
     let mut at: usize = 0;
-    let mut i: usize = 0;
-    while i < n {
+    for i in 0..n {
         let p = store::get(work, list + i);
         at = write_piece(s, labels, work, listing, at, p as usize);
-        i += 1;
     }
     at
 }
@@ -101,18 +98,21 @@ fn count_pieces(s: Size, labels: &[u32], work: &[u32], n: usize) -> usize
     write_pieces(s, labels, work, &mut none, n)
 }
 
-// The pieces, if the store has room for all of them.
-pub fn write_listing(s: Size, labels: &[u32], work: &[u32], listing: &mut [u32], n: usize) -> Answer
+// The pieces, if the store has room for all of them; how many words.
+pub fn write_listing(
+    s: Size,
+    labels: &[u32],
+    work: &[u32],
+    listing: &mut [u32],
+    n: usize,
+) -> Result<u32, Refusal>
     requires { Planned s labels.now work.now n }
     ensures { Answers (pieces_in s labels.now work.now n) listing.old result listing.new }
 {
     let length = count_pieces(s, labels, work, n);
     if listing.len() < length {
-        return crate::refuse(13);
+        return Err(Refusal::ShortOutput);
     }
     let _ = write_pieces(s, labels, work, listing, n);
-    Answer {
-        number: 0,
-        length: length as u32,
-    }
+    Ok(length as u32)
 }

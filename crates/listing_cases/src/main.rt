@@ -1,115 +1,92 @@
 // One panel of two benches, its listing for bench A after each change: relabelled by bench B, with a pixel of A's own moved, and refused.
 #![tactic(auto)]
 
-use lattice::Size;
+use lattice::{OUTSIDE, Size};
 use std::io;
 
-// The first n words of a store.
-fn words(rt: &impl Print, store: &[u32], n: usize) -> io::Result<()> {
-    for i in 0..n {
-        print!(rt; " {}", store::get(store, i))?;
+// Four columns and three rows of labels: bench A cuts 1 and 2, and bench B the others.
+const PANEL: [u32; 12] = [0, 1, 1, 3, 0, 0, 1, 2, 3, 3, 2, 2];
+
+fn line(rt: &impl Print, words: &[u32]) -> io::Result<()> {
+    for word in words {
+        print!(rt; " {word}")?;
     }
     println!(rt)
 }
 
-// What the call says of a panel of 4 by 3 with 5 paints, and the words of the listing.
+// What the call says of a panel with 5 paints, and the words of the listing.
 fn shows(
     rt: &impl Print,
-    name: &[u8],
+    name: &str,
     bound: u32,
     labels: &[u32],
     named: &[u32],
     store: &mut [u32],
 ) -> io::Result<()> {
-    let s = Size {
+    let size = Size {
         width: 4,
         height: 3,
         paints: 5,
         bound,
     };
-    let mut work = [7u32; 160];
-    let a = listing::listing(s, labels, &mut work, named, store);
-    rt.write_all(name)?;
-    print!(rt; "\nnumber {}, length {}:", a.number, a.length)?;
-    words(rt, store, a.length as usize)
+    let (number, length) = match listing::listing(size, labels, &mut [7; 160], named, store) {
+        Ok(length) => (0, length),
+        Err(why) => (why.number(), 0),
+    };
+    print!(rt; "-- {name}\nnumber {number}, length {length}:")?;
+    let n = store.len().min(length as usize);
+    line(rt, &store[..n])
 }
 
-// The listing of the labels 1 and 2, which bench A cuts, in a store with room for any panel of these sides.
-fn bench_a(rt: &impl Print, name: &[u8], labels: &[u32]) -> io::Result<()> {
-    let named = [1u32, 2];
-    let mut store = [9u32; 300];
-    shows(rt, name, lattice::OUTSIDE, labels, &named, &mut store)
+// The listing of the labels 1 and 2 in a store with room for any panel of these sides.
+fn bench_a(rt: &impl Print, name: &str, labels: &[u32; 12]) -> io::Result<()> {
+    shows(rt, name, OUTSIDE, labels, &[1, 2], &mut [9; 300])
 }
 
 fn benches(rt: &impl Print) -> io::Result<()> {
-    bench_a(rt, b"-- the panel", &[0, 1, 1, 3, 0, 0, 1, 2, 3, 3, 2, 2])?;
+    let swapped = [3, 1, 1, 0, 3, 3, 1, 2, 0, 0, 2, 2];
+    let one_label = [4, 1, 1, 9, 4, 4, 1, 2, 4, OUTSIDE, 2, 2];
+    let moved = [0, 0, 1, 3, 0, 0, 1, 2, 3, 3, 2, 2];
+    bench_a(rt, "the panel", &PANEL)?;
+    bench_a(rt, "bench B swaps its labels 0 and 3", &swapped)?;
     bench_a(
         rt,
-        b"-- bench B swaps its labels 0 and 3",
-        &[3, 1, 1, 0, 3, 3, 1, 2, 0, 0, 2, 2],
+        "bench B makes one label of both, and some of it waste",
+        &one_label,
     )?;
-    bench_a(
-        rt,
-        b"-- bench B makes one label of both, and some of it waste",
-        &[4, 1, 1, 9, 4, 4, 1, 2, 4, 4294967295, 2, 2],
-    )?;
-    bench_a(
-        rt,
-        b"-- a pixel of bench A moves to bench B",
-        &[0, 0, 1, 3, 0, 0, 1, 2, 3, 3, 2, 2],
-    )
+    bench_a(rt, "a pixel of bench A moves to bench B", &moved)
+}
+
+// The panel's listing of other names.
+fn named(rt: &impl Print, name: &str, bound: u32, names: &[u32]) -> io::Result<()> {
+    shows(rt, name, bound, &PANEL, names, &mut [9; 300])
 }
 
 fn names(rt: &impl Print) -> io::Result<()> {
-    let panel = [0u32, 1, 1, 3, 0, 0, 1, 2, 3, 3, 2, 2];
-    let mut store = [9u32; 300];
-    shows(
+    named(
         rt,
-        b"-- named twice, in another order, with labels that are not painted",
-        lattice::OUTSIDE,
-        &panel,
-        &[2, 1, 7, 2, 4294967295],
-        &mut store,
+        "named twice, in another order, with labels that are not painted",
+        OUTSIDE,
+        &[2, 1, 7, 2, OUTSIDE],
     )?;
-    shows(
-        rt,
-        b"-- where no cut goes through waste",
-        5,
-        &panel,
-        &[1, 2],
-        &mut store,
-    )?;
-    shows(
-        rt,
-        b"-- nothing named",
-        lattice::OUTSIDE,
-        &panel,
-        &[],
-        &mut store,
-    )
+    named(rt, "where no cut goes through waste", 5, &[1, 2])?;
+    named(rt, "nothing named", OUTSIDE, &[])
 }
 
 fn refusals(rt: &impl Print) -> io::Result<()> {
-    let panel = [0u32, 1, 1, 3, 0, 0, 1, 2, 3, 3, 2, 2];
-    let mut short = [9u32; 53];
+    let few = &PANEL[..11];
+    let mut store = [9; 300];
+    let mut short = [9; 53];
     shows(
         rt,
-        b"-- a store too short",
-        lattice::OUTSIDE,
-        &panel,
+        "a store too short",
+        OUTSIDE,
+        &PANEL,
         &[1, 2],
         &mut short,
     )?;
-    words(rt, &short, 53)?;
-    let mut store = [9u32; 300];
-    shows(
-        rt,
-        b"-- a label too few",
-        lattice::OUTSIDE,
-        &panel[..11],
-        &[1, 2],
-        &mut store,
-    )
+    line(rt, &short)?;
+    shows(rt, "a label too few", OUTSIDE, few, &[1, 2], &mut store)
 }
 
 fn main(rt: HostRuntime) -> io::Result<()> {

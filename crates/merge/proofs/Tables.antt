@@ -18,7 +18,7 @@ use Rattle.rules.proofs.Ground.Booleans.{both, and_left, and_right}
 use Rattle.rules.proofs.Ground.Lists.{not_among}
 use Rattle.calls.proofs.Rows.{◌⇔◌, Row, checks, numbers, None, some_number}
 use Rattle.calls.proofs.Tables.{either_test, unequal_test, less_test}
-use Rattle.merge.specs.Merge.{merges, stray}
+use Rattle.merge.specs.Merge.{merges, stray, checks_when}
 use Rattle.merge.specs.Merge.{checks as checks_of}
 
 -- ANY ROWS, their numbers apart from each other and from 0
@@ -92,7 +92,6 @@ pub record Stray (paints : ℕ) (ls : List ℕ) : Type 0 where
   pub unpainted : paints ≤ label
 
 pub stray_test : (paints : ℕ) (ls : List ℕ) → (stray paints ls ≡ true) ⇔ Stray paints ls
-unfolding stray
 stray_test paints [] = (λ e. absurd (false≢true e), λ s. absurd (not-nil s.stands))
 stray_test paints (l ∷ ls) =
     let first = both_test (not (eqb l OUTSIDE)) (leb paints l) (unequal_test l OUTSIDE) (leb-true paints l, le-leb paints l) in
@@ -133,7 +132,7 @@ rows m limit colours work store =
 
 -- they are the definitions' checks
 pub rows_checks : (m : Map) (limit : ℤ) (colours work store : List ℕ) → checks (rows m limit colours work store) ≡ checks_of m limit colours work store
-unfolding checks_of
+unfolding checks_of checks_when
 rows_checks m limit colours work store = refl
 
 -- and no number comes twice, nor is one 0

@@ -1,15 +1,27 @@
 -- What a call took and what it left, as the rules have them, and what its steps ask and leave.
-use Rattle.std.specs.Prelude.{ℕ, ◌*◌, ◌≤◌, false, not, ◌&&◌, ◌||◌, ◌≡◌, List, ℤ, ltb, eqb, length, get_or, replicate}
+use Rattle.std.specs.Prelude.{ℕ, ◌*◌, ◌≤◌, Bool, false, cond, not, ◌&&◌, ◌||◌, ◌≡◌, List, ℤ, ltb, eqb, length, get_or, replicate, Option, Some, None, Result, Ok, Err}
 use Rattle.rules.specs.Calls.{Map, first_hit, work_words}
-use Rattle.merge.specs.Merge.{start, pairs, settled, merges, stray, region_words, checks, Outcome}
+use Rattle.rules.specs.Refusals.{number_of, number_in}
+use Rattle.rules.specs.declared.Refusal.{Refusal}
+use Rattle.merge.specs.Merge.{start, pairs, settled, merges, limit_of, stray, region_words, checks_when, Outcome}
 use Rattle.merge.specs.Balance.{Painted}
 use Rattle.merge.specs.Stored.{Held, pairs_in}
 use Rattle.merge.specs.Leaves.{Left}
-use Rattle.merge.specs.declared.Answer.{Answer}
+
+-- the limit at which a merge is made, if one is
+abbrev pub asked : ℤ → ℕ → Option ℕ
+asked limit paints = cond (merges limit paints) (Some (limit_of limit)) None
 
 -- the answer, and every lent store afterwards
-abbrev pub outcome : Answer → List ℕ → List ℕ → List ℕ → List ℕ → Outcome
-outcome a labels colours work store = record { number = a.number; paints = a.paints; labels = labels; colours = colours; work = work; store = store }
+abbrev pub outcome : Result ℕ Refusal → List ℕ → List ℕ → List ℕ → List ℕ → Outcome
+outcome answer labels colours work store = record {
+  number = elim answer [ Ok paints ↦ 0 | Err refusal ↦ number_of refusal ];
+  paints = elim answer [ Ok paints ↦ paints | Err refusal ↦ 0 ];
+  labels = labels;
+  colours = colours;
+  work = work;
+  store = store;
+}
 
 -- the answer in two words, as C programs have it
 abbrev pub answered : List ℕ → List ℕ → List ℕ → List ℕ → List ℕ → Outcome
@@ -18,17 +30,18 @@ answered ws labels colours work store = record { number = get_or ws 0 0; paints 
 -- CHECKS
 
 -- what no check refused
-pub record Passed (m : Map) (limit : ℤ) (colours work store : List ℕ) : Type 0 where
+pub record Passed (m : Map) (merging : Bool) (colours work store : List ℕ) : Type 0 where
   pub wide : m.width ≤ 16384
   pub high : m.height ≤ 16384
   pub size : length m.labels ≡ m.width * m.height
-  pub painted : (merges limit m.paints && stray m.paints m.labels) ≡ false
+  pub painted : (merging && stray m.paints m.labels) ≡ false
   pub words : work_words m ≤ length work
-  pub rooms : (merges limit m.paints && (not (eqb (length colours) (3 * m.paints)) || ltb (length store) (region_words m))) ≡ false
+  pub rooms : (merging && (not (eqb (length colours) (3 * m.paints)) || ltb (length store) (region_words m))) ≡ false
 
-pub record Checked (m : Map) (limit : ℤ) (colours work store : List ℕ) (r : ℕ) : Type 0 where
-  pub number : r ≡ first_hit (checks m limit colours work store)
-  pub passes : r ≡ 0 → Passed m limit colours work store
+-- the first check that hits, if one does
+pub record Checked (m : Map) (merging : Bool) (colours work store : List ℕ) (r : Result (Unit {0}) Refusal) : Type 0 where
+  pub number : number_in r ≡ first_hit (checks_when merging m colours work store)
+  pub passes : number_in r ≡ 0 → Passed m merging colours work store
 
 -- STEPS
 

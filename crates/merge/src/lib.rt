@@ -4,22 +4,29 @@
 pub mod order;
 
 ghost use Rattle.std.specs.Prelude.{◌≡◌, ◌+◌, ◌*◌, ◌/◌, ◌%◌, ◌<◌, ◌≤◌, length, set, eqb, leb, ltb, true, not, ◌&&◌, ◌||◌, [], ◌∷◌};
-ghost use Rattle.merge.specs.Merge.{count, touch, limit_of, merges, stray, merge};
+ghost use Rattle.merge.specs.Merge.{gap, count, touch, stray, merge};
 ghost use Rattle.merge.specs.Stored.{word, wide, tinted, channel, taken, apart_in, Room, Fits, Takes, Leaf, Found, Due, Visited, pairs_in, Sweeps, Swept, Settles, Rooms, Begun, Tallies, Tallied, Countable, coloured, Coloured};
-ghost use Rattle.merge.specs.Noted.{single, Table, Stands, Noted, right_of, below_of, Beside, NextColumn, Scans, Scanned};
+ghost use Rattle.merge.specs.Noted.{single, Table, Stands, Noted, right_of, below_of, Beside, Scans, Scanned};
 ghost use Rattle.merge.specs.Leaves.{Named, Gives, Given, Relabels, Relabelled, Spread, Leaves, AllLeft};
 ghost use Rattle.calls.specs.Outcome.{map_of};
-ghost use Rattle.merge.specs.Called.{outcome, Checked, Starts, Started, Ranks, Ranked, Runs, Ran, Merged};
+ghost use Rattle.merge.specs.Called.{outcome, asked, Checked, Starts, Started, Ranks, Ranked, Runs, Ran, Merged};
 ghost use Rattle.std.proofs.lemmas.List.Edits.{sets};
 
 use lattice::{OUTSIDE, Size};
+use rules::Refusal;
 
-// A word as a wide number.
-fn long(x: u32) -> u64
-    ensures { result ≡ x }
-{
-    x as u64
-}
+// The words of a region.
+const UP: usize = 0; // the region that it was absorbed by, or itself
+
+const AREA: usize = 1;
+
+const NUMBER: usize = 11; // its number among the new paints
+
+const RED: Channel = Channel { sum: 2, mean: 8 };
+
+const GREEN: Channel = Channel { sum: 4, mean: 9 };
+
+const BLUE: Channel = Channel { sum: 6, mean: 10 };
 
 // The word k of the region l.
 fn get(regions: &[u32], l: usize, k: usize) -> u32
@@ -37,35 +44,68 @@ fn put(regions: &mut [u32], l: usize, k: usize, v: u32)
     regions[12 * l + k] = v;
 }
 
-// The sum in the words k and k + 1 of the region l.
-fn sum(regions: &[u32], l: usize, k: usize) -> u64
-    requires { 12 * l + (k + 1) < length regions.now }
-    ensures { result ≡ wide regions.now l k }
-{
-    long(get(regions, l, k)) + 4294967296 * long(get(regions, l, k + 1))
+// A channel of a region: the first of the two words of its sum, and the word of its mean.
+#[derive(Clone, Copy)]
+struct Channel {
+    sum: usize,
+    mean: usize,
+    ghost words: { (sum + 1 < 12) × (mean < 12) },
 }
 
-// The sum v in two words of the region l from k on, and its mean over an area in word m.
-fn put_channel(regions: &mut [u32], l: usize, k: usize, m: usize, v: u64, area: u64)
-    requires room { 12 * l + 12 ≤ length regions.old }
-    requires words { (k + 1 < 12) × (m < 12) }
-    requires fits { (0 < area) × (v ≤ 255 * area) }
-    ensures { regions.new ≡ tinted l k m v area regions.old }
-{
-    put(regions, l, k, (v % 4294967296) as u32);
-    put(regions, l, k + 1, (v / 4294967296) as u32);
-    put(regions, l, m, (v / area) as u32);
-}
+impl Channel {
+    // The sum of the region l.
+    fn sum(self, regions: &[u32], l: usize) -> u64
+        requires { 12 * l + (self.sum + 1) < length regions.now }
+        ensures { result ≡ wide regions.now l self.sum }
+    {
+        let low = get(regions, l, self.sum);
+        let high = get(regions, l, self.sum + 1);
+        u64::from(low) + 4294967296 * u64::from(high)
+    }
 
-// The region a takes over a channel of b, its sum in two words from k on and its mean in word m.
-fn add_channel(regions: &mut [u32], a: usize, b: usize, k: usize, m: usize, area: u64)
-    requires room { Room a b regions.old }
-    requires words { (k + 1 < 12) × (m < 12) }
-    requires fits { Fits a b k area regions.old }
-    ensures { regions.new ≡ channel a b k m area regions.old }
-{
-    let v = sum(regions, a, k) + sum(regions, b, k);
-    put_channel(regions, a, k, m, v, area);
+    // The sum v of the region l, and its mean over an area.
+    fn put(self, regions: &mut [u32], l: usize, v: u64, area: u64)
+        requires room { 12 * l + 12 ≤ length regions.old }
+        requires fits { (0 < area) × (v ≤ 255 * area) }
+        ensures { regions.new ≡ tinted l self.sum self.mean v area regions.old }
+    {
+        put(regions, l, self.sum, (v % 4294967296) as u32);
+        put(regions, l, self.sum + 1, (v / 4294967296) as u32);
+        put(regions, l, self.mean, (v / area) as u32);
+    }
+
+    // The region a takes over the sum of b.
+    fn add(self, regions: &mut [u32], a: usize, b: usize, area: u64)
+        requires room { Room a b regions.old }
+        requires fits { Fits a b self.sum area regions.old }
+        ensures { regions.new ≡ channel a b self.sum self.mean area regions.old }
+    {
+        let v = self.sum(regions, a) + self.sum(regions, b);
+        self.put(regions, a, v, area);
+    }
+
+    // The region l at the start: the colour for each of its pixels.
+    fn tint(self, regions: &mut [u32], l: usize, colour: u8, area: u64)
+        requires room { 12 * l + 12 ≤ length regions.old }
+        requires small { area ≤ 4294967295 }
+        ensures { regions.new ≡ tinted l self.sum self.mean (colour * area) area regions.old }
+    {
+        if area == 0 {
+            put(regions, l, self.sum, 0);
+            put(regions, l, self.sum + 1, 0);
+            put(regions, l, self.mean, 0);
+            return;
+        }
+        self.put(regions, l, u64::from(colour) * area, area);
+    }
+
+    // How far the means of two regions are apart.
+    fn gap(self, regions: &[u32], a: usize, b: usize) -> u64
+        requires { Room a b regions.now }
+        ensures { (result ≡ gap (word regions.now a self.mean) (word regions.now b self.mean)) × (result ≤ 4294967295) }
+    {
+        order::gap(get(regions, a, self.mean), get(regions, b, self.mean))
+    }
 }
 
 // The region a absorbs b.
@@ -73,12 +113,12 @@ fn absorb(regions: &mut [u32], a: usize, b: usize)
     requires { Takes a b regions.old }
     ensures { regions.new ≡ taken a b regions.old }
 {
-    let area = long(get(regions, a, 1)) + long(get(regions, b, 1));
-    put(regions, b, 0, a as u32);
-    put(regions, a, 1, area as u32);
-    add_channel(regions, a, b, 2, 8, area);
-    add_channel(regions, a, b, 4, 9, area);
-    add_channel(regions, a, b, 6, 10, area);
+    let area = u64::from(get(regions, a, AREA)) + u64::from(get(regions, b, AREA));
+    put(regions, b, UP, a as u32);
+    put(regions, a, AREA, area as u32);
+    RED.add(regions, a, b, area);
+    GREEN.add(regions, a, b, area);
+    BLUE.add(regions, a, b, area);
 }
 
 // The distance of two regions' mean colours.
@@ -86,10 +126,7 @@ fn apart(regions: &[u32], a: usize, b: usize) -> u64
     requires { Room a b regions.now }
     ensures { result ≡ apart_in regions.now a b }
 {
-    let red = order::gap(get(regions, a, 8), get(regions, b, 8));
-    let green = order::gap(get(regions, a, 9), get(regions, b, 9));
-    let blue = order::gap(get(regions, a, 10), get(regions, b, 10));
-    red + green + blue
+    RED.gap(regions, a, b) + GREEN.gap(regions, a, b) + BLUE.gap(regions, a, b)
 }
 
 // The region that l is part of. The way there is halved.
@@ -99,31 +136,31 @@ fn find(regions: &mut [u32], n: usize, l: usize) -> usize
 {
     let mut r = l;
     loop {
-        let up = get(regions, r, 0) as usize;
+        let up = get(regions, r, UP) as usize;
         if up == r {
             return r;
         }
-        let over = get(regions, up, 0);
-        put(regions, r, 0, over);
+        let over = get(regions, up, UP);
+        put(regions, r, UP, over);
         r = over as usize;
     }
 }
 
-// A pair: the first region absorbs the second if their colours are within the limit. How many were absorbed.
-fn visit(regions: &mut [u32], n: usize, limit: u32, a: usize, b: usize) -> usize
+// A pair: the first region absorbs the second if their colours are within the limit. Whether it did.
+fn visit(regions: &mut [u32], n: usize, limit: u32, a: usize, b: usize) -> bool
     requires { Due n a b regions.old }
     ensures { Visited n limit a b regions.old result regions.new }
 {
     let p = find(regions, n, a);
     let q = find(regions, n, b);
     if p == q {
-        return 0;
+        return false;
     }
-    if long(limit) < apart(regions, p, q) {
-        return 0;
+    if u64::from(limit) < apart(regions, p, q) {
+        return false;
     }
     absorb(regions, p, q);
-    1
+    true
 }
 
 // The m pairs in the order in which they stand. How many regions were absorbed.
@@ -132,17 +169,18 @@ fn sweep(work: &[u32], regions: &mut [u32], n: usize, limit: u32, m: usize) -> u
     ensures { Swept n limit (pairs_in work.now m) regions.old result regions.new }
 {
     let mut count: usize = 0;
-    let mut k: usize = 0;
-    while k < m {
-        let a = store::at(work, 2 * k);
-        let b = store::at(work, 2 * k + 1);
-        count += visit(regions, n, limit, a as usize, b as usize);
-        k += 1;
+    for k in 0..m {
+        let a = work[2 * k] as usize;
+        let b = work[2 * k + 1] as usize;
+        if visit(regions, n, limit, a, b) {
+            count += 1;
+        }
     }
     count
 }
 
 // Sweeps until one absorbs nothing.
+// Kept, point 5: n, how many regions there are, stays beside their store: the measure of these sweeps counts those below it that stand.
 fn settle(work: &[u32], regions: &mut [u32], n: usize, limit: u32, m: usize)
     requires { Sweeps n m work.now regions.old }
     ensures { Settles n limit (pairs_in work.now m) regions.old regions.new }
@@ -159,11 +197,9 @@ fn begin(regions: &mut [u32], n: usize)
     requires { Rooms n regions.old }
     ensures { Begun n (λ l. 0) regions.old regions.new }
 {
-    let mut l: usize = 0;
-    while l < n {
-        put(regions, l, 0, l as u32);
-        put(regions, l, 1, 0);
-        l += 1;
+    for l in 0..n {
+        put(regions, l, UP, l as u32);
+        put(regions, l, AREA, 0);
     }
 }
 
@@ -175,8 +211,8 @@ fn tally(regions: &mut [u32], n: usize, l: u32)
     if l == OUTSIDE {
         return;
     }
-    let area = get(regions, l as usize, 1);
-    put(regions, l as usize, 1, area + 1);
+    let area = get(regions, l as usize, AREA);
+    put(regions, l as usize, AREA, area + 1);
 }
 
 // The pixels of each label.
@@ -184,28 +220,9 @@ fn count(labels: &[u32], regions: &mut [u32], n: usize)
     requires { Countable n labels.now regions.old }
     ensures { Begun n (λ l. count l labels.now) regions.old regions.new }
 {
-    let mut p: usize = 0;
-    while p < labels.len() {
-        let l = labels[p];
-        tally(regions, n, l);
-        p += 1;
+    for l in labels {
+        tally(regions, n, *l);
     }
-}
-
-// A channel of the region l at the start: the colour c for each of its pixels.
-fn tint(regions: &mut [u32], l: usize, k: usize, m: usize, c: u8, area: u64)
-    requires room { 12 * l + 12 ≤ length regions.old }
-    requires words { (k + 1 < 12) × (m < 12) }
-    requires small { area ≤ 4294967295 }
-    ensures { regions.new ≡ tinted l k m (c * area) area regions.old }
-{
-    if area == 0 {
-        put(regions, l, k, 0);
-        put(regions, l, k + 1, 0);
-        put(regions, l, m, 0);
-        return;
-    }
-    put_channel(regions, l, k, m, (c as u64) * area, area);
 }
 
 // The region l at the start, its pixels counted already.
@@ -214,13 +231,10 @@ fn colour(colours: &[u8], regions: &mut [u32], l: usize)
     requires regions { 12 * l + 12 ≤ length regions.old }
     ensures { regions.new ≡ coloured colours.now l regions.old }
 {
-    let area = long(get(regions, l, 1));
-    let red = colours[3 * l];
-    let green = colours[3 * l + 1];
-    let blue = colours[3 * l + 2];
-    tint(regions, l, 2, 8, red, area);
-    tint(regions, l, 4, 9, green, area);
-    tint(regions, l, 6, 10, blue, area);
+    let area = u64::from(get(regions, l, AREA));
+    RED.tint(regions, l, colours[3 * l], area);
+    GREEN.tint(regions, l, colours[3 * l + 1], area);
+    BLUE.tint(regions, l, colours[3 * l + 2], area);
 }
 
 // All regions at the start.
@@ -229,10 +243,8 @@ fn colour_all(colours: &[u8], regions: &mut [u32], n: usize)
     requires regions { Rooms n regions.old }
     ensures { Coloured n colours.now regions.old regions.new }
 {
-    let mut l: usize = 0;
-    while l < n {
+    for l in 0..n {
         colour(colours, regions, l);
-        l += 1;
     }
 }
 
@@ -241,146 +253,92 @@ fn stands(work: &[u32], count: usize, e: usize, a: u32, b: u32) -> bool
     requires { 2 * count ≤ length work.now }
     ensures { result ≡ true → Stands count e a b work.now }
 {
-    if count <= e {
-        return false;
-    }
-    if store::at(work, 2 * e) == a {
-        return store::at(work, 2 * e + 1) == b;
-    }
-    false
+    e < count && work[2 * e] == a && work[2 * e + 1] == b
 }
 
-// The pair a, b into the list of `count` pairs, unless the table names a place where it stands. How many there then are.
-fn note(
-    work: &mut [u32],
-    table: usize,
+// The table of the pairs that touch: where it stands in the work store, how many slots it has, and how many paints there are.
+#[derive(Clone, Copy)]
+struct PairTable {
+    first: usize,
     slots: usize,
-    n: usize,
-    count: usize,
-    a: u32,
-    b: u32,
-) -> usize
-    requires { Table table slots n count work.old }
-    ensures { Noted (single a b) count work.old result work.new }
-{
-    let slot = table + ((a as usize) * n + (b as usize)) % slots;
-    let e = store::at(work, slot);
-    if stands(work, count, e as usize, a, b) {
-        return count;
-    }
-    work[slot] = count as u32;
-    work[2 * count] = a;
-    work[2 * count + 1] = b;
-    count + 1
+    paints: usize,
 }
 
-// Two labels of neighbours, as a pair if they touch.
-fn touch(
-    work: &mut [u32],
-    table: usize,
-    slots: usize,
-    n: usize,
-    count: usize,
-    a: u32,
-    b: u32,
-) -> usize
-    requires { Table table slots n count work.old }
-    ensures { Noted (touch a b) count work.old result work.new }
-{
-    if a == b {
-        return count;
+impl PairTable {
+    // The pair a, b into the list of `count` pairs, unless the table names a place where it stands. How many there then are.
+    fn note(self, work: &mut [u32], count: usize, a: u32, b: u32) -> usize
+        requires { Table self count work.old }
+        ensures { Noted (single a b) count work.old result work.new }
+    {
+        let slot = self.first + ((a as usize) * self.paints + (b as usize)) % self.slots;
+        let e = work[slot] as usize;
+        if stands(work, count, e, a, b) {
+            return count;
+        }
+        work[slot] = count as u32;
+        work[2 * count] = a;
+        work[2 * count + 1] = b;
+        count + 1
     }
-    if a == OUTSIDE {
-        return count;
-    }
-    if b == OUTSIDE {
-        return count;
-    }
-    if a < b {
-        return note(work, table, slots, n, count, a, b);
-    }
-    note(work, table, slots, n, count, b, a)
-}
 
-// The pixel p, in the column x, with the one right of it.
-fn right(
-    labels: &[u32],
-    work: &mut [u32],
-    width: usize,
-    table: usize,
-    slots: usize,
-    n: usize,
-    count: usize,
-    x: usize,
-    p: usize,
-) -> usize
-    requires table { Table table slots n count work.old }
-    requires beside { Beside width x p labels.now }
-    ensures { Noted (right_of width labels.now p) count work.old result work.new }
-{
-    if width <= x + 1 {
-        return count;
+    // Two labels of neighbours, as a pair if they touch.
+    fn touch(self, work: &mut [u32], count: usize, a: u32, b: u32) -> usize
+        requires { Table self count work.old }
+        ensures { Noted (touch a b) count work.old result work.new }
+    {
+        if a == OUTSIDE || b == OUTSIDE || a == b {
+            return count;
+        }
+        self.note(work, count, a.min(b), a.max(b))
     }
-    let a = store::at(labels, p);
-    let b = store::at(labels, p + 1);
-    touch(work, table, slots, n, count, a, b)
-}
 
-// The pixel p with the one below it.
-fn below(
-    labels: &[u32],
-    work: &mut [u32],
-    width: usize,
-    table: usize,
-    slots: usize,
-    n: usize,
-    count: usize,
-    p: usize,
-) -> usize
-    requires table { Table table slots n count work.old }
-    requires pixel { (p < length labels.now) × (p + width < 18446744073709551616) }
-    ensures { Noted (below_of width labels.now p) count work.old result work.new }
-{
-    let q = p + width;
-    if labels.len() <= q {
-        return count;
+    // The pixel p, in the column x, with the one right of it.
+    fn right(
+        self,
+        labels: &[u32],
+        work: &mut [u32],
+        width: usize,
+        count: usize,
+        x: usize,
+        p: usize,
+    ) -> usize
+        requires table { Table self count work.old }
+        requires beside { Beside width x p labels.now }
+        ensures { Noted (right_of width labels.now p) count work.old result work.new }
+    {
+        if width <= x + 1 {
+            return count;
+        }
+        self.touch(work, count, labels[p], labels[p + 1])
     }
-    let a = store::at(labels, p);
-    let b = store::at(labels, q);
-    touch(work, table, slots, n, count, a, b)
-}
 
-// The column after x.
-fn next_column(width: usize, x: usize) -> usize
-    requires { x < width }
-    ensures { NextColumn width x result }
-{
-    let r = x + 1;
-    if r == width { 0 } else { r }
-}
-
-// The pairs of all pixels, row by row: how many were noted.
-fn scan(
-    labels: &[u32],
-    work: &mut [u32],
-    width: usize,
-    table: usize,
-    slots: usize,
-    n: usize,
-) -> usize
-    requires { Scans width table slots n labels.now work.old }
-    ensures { Scanned width (length labels.now) labels.now work.old result work.new }
-{
-    let mut count: usize = 0;
-    let mut x: usize = 0;
-    let mut p: usize = 0;
-    while p < labels.len() {
-        let more = right(labels, work, width, table, slots, n, count, x, p);
-        count = below(labels, work, width, table, slots, n, more, p);
-        x = next_column(width, x);
-        p += 1;
+    // The pixel p with the one below it.
+    fn below(self, labels: &[u32], work: &mut [u32], width: usize, count: usize, p: usize) -> usize
+        requires table { Table self count work.old }
+        requires pixel { (p < length labels.now) × (p + width < 18446744073709551616) }
+        ensures { Noted (below_of width labels.now p) count work.old result work.new }
+    {
+        if labels.len() <= p + width {
+            return count;
+        }
+        self.touch(work, count, labels[p], labels[p + width])
     }
-    count
+
+    // The pairs of all pixels, row by row: how many were noted.
+    fn scan(self, labels: &[u32], work: &mut [u32], width: usize, height: usize) -> usize
+        requires { Scans self width height labels.now work.old }
+        ensures { Scanned width (length labels.now) labels.now work.old result work.new }
+    {
+        let mut count: usize = 0;
+        for y in 0..height {
+            for x in 0..width {
+                let p = y * width + x;
+                count = self.right(labels, work, width, count, x, p);
+                count = self.below(labels, work, width, count, p);
+            }
+        }
+        count
+    }
 }
 
 // Whether the list of k regions names a at the place e.
@@ -388,20 +346,7 @@ fn named(work: &[u32], k: usize, e: usize, a: u32) -> bool
     requires { k ≤ length work.now }
     ensures { Named k e a work.now result }
 {
-    if k <= e {
-        return false;
-    }
-    store::at(work, e) == a
-}
-
-// Three bytes from i on.
-fn put_colour(colours: &mut [u8], i: usize, red: u8, green: u8, blue: u8)
-    requires { i + 3 ≤ length colours.old }
-    ensures { colours.new ≡ sets colours.old i (red ∷ green ∷ blue ∷ []) }
-{
-    colours[i] = red;
-    colours[i + 1] = green;
-    colours[i + 2] = blue;
+    e < k && work[e] == a
 }
 
 // A number for the region a, and its mean colour, unless it has one: k have one already. How many then have one.
@@ -416,16 +361,16 @@ fn give(
     requires { Gives n a k colours.old work.old regions.old }
     ensures { Given n a k colours.old work.old regions.old result colours.new work.new regions.new }
 {
-    let e = get(regions, a, 11);
+    let e = get(regions, a, NUMBER);
     if named(work, k, e as usize, a as u32) {
         return k;
     }
-    let red = get(regions, a, 8);
-    let green = get(regions, a, 9);
-    let blue = get(regions, a, 10);
-    put_colour(colours, 3 * k, red as u8, green as u8, blue as u8);
+    let red = get(regions, a, RED.mean);
+    let green = get(regions, a, GREEN.mean);
+    let blue = get(regions, a, BLUE.mean);
+    colours[3 * k..3 * k + 3].copy_from_slice(&[red as u8, green as u8, blue as u8]);
     work[k] = a as u32;
-    put(regions, a, 11, k as u32);
+    put(regions, a, NUMBER, k as u32);
     k + 1
 }
 
@@ -442,13 +387,13 @@ fn relabel_one(
     requires { Relabels n k p labels.old colours.old work.old regions.old }
     ensures { Relabelled n k p labels.old colours.old work.old regions.old result labels.new colours.new work.new regions.new }
 {
-    let l = store::at(labels, p);
+    let l = labels[p];
     if l == OUTSIDE {
         return k;
     }
     let a = find(regions, n, l as usize);
     let r = give(colours, work, regions, n, a, k);
-    let v = get(regions, a, 11);
+    let v = get(regions, a, NUMBER);
     labels[p] = v;
     r
 }
@@ -458,15 +403,13 @@ fn spread(labels: &mut [u32], from: usize, old: u32, new: u32) -> usize
     requires { from ≤ length labels.old }
     ensures { Spread from old new labels.old result labels.new }
 {
-    let mut q = from;
-    while q < labels.len() {
-        if store::at(labels, q) != old {
+    for q in from..labels.len() {
+        if labels[q] != old {
             return q;
         }
         labels[q] = new;
-        q += 1;
     }
-    q
+    labels.len()
 }
 
 // The new labels of all pixels, run by run, and the colours of the new paints. How many there are.
@@ -482,10 +425,11 @@ fn relabel(
 {
     let mut k: usize = 0;
     let mut p: usize = 0;
+    // Kept, point 3: p goes on by a run; chunk_by_mut tried, no contract says what its runs leave behind them.
     while p < labels.len() {
-        let old = store::at(labels, p);
+        let old = labels[p];
         k = relabel_one(labels, colours, work, regions, n, k, p);
-        let new = store::at(labels, p);
+        let new = labels[p];
         p = spread(labels, p + 1, old, new);
     }
     k
@@ -507,11 +451,7 @@ fn slots(n: usize, most: usize) -> usize
     requires { (0 < n) × (n ≤ 4294967295) × (0 < most) }
     ensures { (0 < result) × (result ≤ most) }
 {
-    let square = n * n;
-    if square < most {
-        return square;
-    }
-    most
+    (n * n).min(most)
 }
 
 // The pairs in their order. How many there are.
@@ -520,10 +460,13 @@ fn rank(s: Size, labels: &[u32], colours: &[u8], work: &mut [u32]) -> usize
     ensures { Ranked (map_of s labels.now) colours.now work.old result work.new }
 {
     let n = s.paints as usize;
-    let width = s.width as usize;
     let corners = lattice::plane(s);
-    let size = slots(n, 4 * corners);
-    let noted = scan(labels, work, width, 4 * corners, size, n);
+    let table = PairTable {
+        first: 4 * corners,
+        slots: slots(n, 4 * corners),
+        paints: n,
+    };
+    let noted = table.scan(labels, work, s.width as usize, s.height as usize);
     order::sort(colours, work, 0, 2 * corners, noted)
 }
 
@@ -559,113 +502,59 @@ fn merge_within(
     ensures { Merged (map_of s labels.old) limit colours.old work.old regions.old result labels.new colours.new work.new regions.new }
 {
     let r = run(s, limit, labels, colours, work, regions);
-    store::fill(work, 0, work.len(), 0);
-    store::fill(regions, 0, regions.len(), 0);
+    work.fill(0);
+    regions.fill(0);
     r as u32
 }
 
-// The limit as a word, 0 where there is none.
-fn limit_of(limit: i32) -> u32
-    ensures { result ≡ limit_of limit }
+// The limit at which a merge is made, if one is.
+fn asked(limit: i32, paints: u32) -> Option<u32>
+    ensures { result ≡ asked limit paints }
 {
-    if limit < 0 {
-        return 0;
+    if paints < 2 {
+        return None;
     }
-    limit as u32
+    u32::try_from(limit).ok()
 }
 
-// Whether a merge is made.
-fn merges(limit: i32, paints: u32) -> bool
-    ensures { result ≡ merges limit paints }
-{
-    if limit < 0 {
-        return false;
-    }
-    2 <= paints
-}
-
-// Whether a label is neither OUTSIDE nor painted.
-fn unpainted(l: u32, paints: u32) -> bool
-    ensures { result ≡ (not (eqb l 4294967295) && leb paints l) }
-{
-    if l == OUTSIDE {
-        return false;
-    }
-    paints <= l
-}
-
-// Whether one of the labels is.
+// Whether one of the labels is neither OUTSIDE nor painted.
 fn stray(labels: &[u32], paints: u32) -> bool
     ensures { result ≡ stray paints labels.now }
 {
-    let mut p: usize = 0;
-    while p < labels.len() {
-        if unpainted(store::at(labels, p), paints) {
-            return true;
-        }
-        p += 1;
-    }
-    false
+    labels.iter().any(|l| *l != OUTSIDE && paints <= *l)
 }
 
-// Whether a merge is made of labels of which one is stray.
-fn strays(merging: bool, labels: &[u32], paints: u32) -> bool
-    ensures { result ≡ (merging && stray paints labels.now) }
+// Whether the call can be made: the first check that hits, in the order of docs/RULES.md.
+fn check(
+    s: Size,
+    merging: bool,
+    labels: &[u32],
+    colours: &[u8],
+    work: &[u32],
+    regions: &[u32],
+) -> Result<(), Refusal>
+    ensures { Checked (map_of s labels.now) merging colours.now work.now regions.now result }
 {
-    if merging {
-        return stray(labels, paints);
-    }
-    false
-}
-
-// Whether a merge is made of so many paints, and the stores of colours and of regions have other lengths.
-fn lacks(merging: bool, colours: usize, rooms: usize, paints: u32) -> bool
-    ensures { result ≡ (merging && (not (eqb colours (3 * paints)) || ltb rooms (12 * paints))) }
-{
-    if merging {
-        let n = paints as usize;
-        if colours != 3 * n {
-            return true;
-        }
-        return rooms < 12 * n;
-    }
-    false
-}
-
-// The number of the first check that hits, or 0.
-fn check(s: Size, limit: i32, labels: &[u32], colours: &[u8], work: &[u32], regions: &[u32]) -> u32
-    ensures { Checked (map_of s labels.now) limit colours.now work.now regions.now result }
-{
-    if 16384 < s.width {
-        return 1;
-    }
-    if 16384 < s.height {
-        return 1;
+    if 16384 < s.width || 16384 < s.height {
+        return Err(Refusal::LongSide);
     }
     if labels.len() != (s.width as usize) * (s.height as usize) {
-        return 2;
+        return Err(Refusal::LabelCount);
     }
-    let merging = merges(limit, s.paints);
-    if strays(merging, labels, s.paints) {
-        return 12;
+    if merging && stray(labels, s.paints) {
+        return Err(Refusal::StrayLabel);
     }
     if work.len() < 8 * lattice::plane(s) {
-        return 3;
+        return Err(Refusal::ShortWork);
     }
-    if lacks(merging, colours.len(), regions.len(), s.paints) {
-        return 17;
+    let n = s.paints as usize;
+    if merging && (colours.len() != 3 * n || regions.len() < 12 * n) {
+        return Err(Refusal::MergeStores);
     }
-    0
+    Ok(())
 }
 
-// The number, and the new paint count.
-#[derive(Clone, Copy)]
-pub struct Answer {
-    pub number: u32,
-    pub paints: u32,
-}
-
-// Near colours become one leaf.
+// Near colours become one leaf. How many paints there then are.
 pub fn merge(
     s: Size,
     limit: i32,
@@ -673,30 +562,16 @@ pub fn merge(
     colours: &mut [u8],
     work: &mut [u32],
     regions: &mut [u32],
-) -> Answer
+) -> Result<u32, Refusal>
     ensures { outcome result labels.new colours.new work.new regions.new ≡ merge (map_of s labels.old) limit colours.old work.old regions.old }
 {
-    let number = check(s, limit, labels, colours, work, regions);
-    if number != 0 {
-        return Answer { number, paints: 0 };
-    }
-    let words = 8 * lattice::plane(s);
-    if merges(limit, s.paints) {
-        let rooms = 12 * (s.paints as usize);
-        let at_most = limit_of(limit);
-        let paints = merge_within(
-            s,
-            at_most,
-            labels,
-            colours,
-            &mut work[..words],
-            &mut regions[..rooms],
-        );
-        return Answer { number: 0, paints };
-    }
-    store::fill(work, 0, words, 0);
-    Answer {
-        number: 0,
-        paints: s.paints,
-    }
+    let at_most = asked(limit, s.paints);
+    check(s, at_most.is_some(), labels, colours, work, regions)?;
+    let work = &mut work[..8 * lattice::plane(s)];
+    let Some(at_most) = at_most else {
+        work.fill(0);
+        return Ok(s.paints);
+    };
+    let regions = &mut regions[..12 * (s.paints as usize)];
+    Ok(merge_within(s, at_most, labels, colours, work, regions))
 }

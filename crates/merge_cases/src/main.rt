@@ -5,81 +5,56 @@
 ghost use Rattle.std.specs.Prelude.{◌≤◌};
 
 use lattice::{OUTSIDE, Size};
-use std::io;
+use std::{fmt, io};
 
-fn say(rt: &impl Print, text: &[u8]) -> io::Result<()> {
-    rt.write_all(text)
-}
+// A label, or a dot for OUTSIDE.
+#[derive(Drop)]
+struct Label(u32);
 
-fn number(rt: &impl Print, n: u32) -> io::Result<()> {
-    print!(rt; " {n}")
-}
-
-// A dot is OUTSIDE.
-fn label(rt: &impl Print, l: u32) -> io::Result<()> {
-    if l == OUTSIDE {
-        say(rt, b" .")
-    } else {
-        number(rt, l)
+impl fmt::Display for Label {
+    fn fmt<W: fmt::Write>(&self, f: &mut fmt::Formatter<W>) -> fmt::Result {
+        match self.0 {
+            OUTSIDE => write!(f, "."),
+            label => write!(f, "{label}"),
+        }
     }
 }
 
-fn labels_of(rt: &impl Print, words: &[u32]) -> io::Result<()> {
-    for word in words {
-        label(rt, *word)?;
+// What is lent to a call.
+struct Stores<'a> {
+    labels: &'a mut [u32],
+    colours: &'a mut [u8],
+    work: &'a mut [u32],
+    regions: &'a mut [u32],
+}
+
+fn not_zero(words: &[u32]) -> usize {
+    words.iter().filter(|word| **word != 0).count()
+}
+
+impl Stores<'_> {
+    // A call, and what it leaves.
+    fn merge(self, rt: &impl Print, name: &str, s: Size, limit: i32) -> io::Result<()> {
+        let Stores {
+            labels,
+            colours,
+            work,
+            regions,
+        } = self;
+        let (number, paints) = match merge::merge(s, limit, labels, colours, work, regions) {
+            Ok(paints) => (0, paints),
+            Err(why) => (why.number(), 0),
+        };
+        print!(rt; "{name:<25} {number} {paints} |")?;
+        for label in labels.iter() {
+            print!(rt; " {}", Label(*label))?;
+        }
+        print!(rt; " |")?;
+        for colour in colours.iter() {
+            print!(rt; " {colour}")?;
+        }
+        println!(rt; " | {} {}", not_zero(work), not_zero(regions))
     }
-    Ok(())
-}
-
-fn wide(b: u8) -> u32 {
-    b as u32
-}
-
-fn colours_of(rt: &impl Print, bytes: &[u8]) -> io::Result<()> {
-    for byte in bytes {
-        number(rt, wide(*byte))?;
-    }
-    Ok(())
-}
-
-fn one(word: u32) -> u32
-    ensures { result ≤ 1 }
-{
-    if word == 0 { 0 } else { 1 }
-}
-
-// How many words are not 0.
-fn not_zero(words: &[u32]) -> u32 {
-    let mut count: u32 = 0;
-    for word in words {
-        count = count.wrapping_add(one(*word));
-    }
-    count
-}
-
-// A call, and what it leaves.
-fn row(
-    rt: &impl Print,
-    name: &[u8],
-    s: Size,
-    limit: i32,
-    labels: &mut [u32],
-    colours: &mut [u8],
-    work: &mut [u32],
-    regions: &mut [u32],
-) -> io::Result<()> {
-    let a = merge::merge(s, limit, labels, colours, work, regions);
-    say(rt, name)?;
-    number(rt, a.number)?;
-    number(rt, a.paints)?;
-    say(rt, b" |")?;
-    labels_of(rt, labels)?;
-    say(rt, b" |")?;
-    colours_of(rt, colours)?;
-    say(rt, b" |")?;
-    number(rt, not_zero(work))?;
-    number(rt, not_zero(regions))?;
-    say(rt, b"\n")
 }
 
 fn size(width: u32, height: u32, paints: u32) -> Size {
@@ -92,212 +67,82 @@ fn size(width: u32, height: u32, paints: u32) -> Size {
 }
 
 // Three pixels in a row, of three greys, each with three paints and a word more than is needed of each store.
-fn greys(rt: &impl Print, name: &[u8], limit: i32, a: u8, b: u8, c: u8) -> io::Result<()> {
-    let mut labels = [0u32, 1, 2];
-    let mut colours = [a, a, a, b, b, b, c, c, c];
-    let mut work = [7u32; 65];
-    let mut regions = [7u32; 37];
-    row(
-        rt,
-        name,
-        size(3, 1, 3),
-        limit,
-        &mut labels,
-        &mut colours,
-        &mut work,
-        &mut regions,
-    )
+fn greys(rt: &impl Print, name: &str, limit: i32, greys: [u8; 3]) -> io::Result<()> {
+    let mut colours = greys.map(|grey| [grey; 3]);
+    let stores = Stores {
+        labels: &mut [0, 1, 2],
+        colours: colours.as_flattened_mut(),
+        work: &mut [7; 65],
+        regions: &mut [7; 37],
+    };
+    stores.merge(rt, name, size(3, 1, 3), limit)
 }
 
 fn merged(rt: &impl Print) -> io::Result<()> {
-    greys(rt, b"all far apart            ", 2, 0, 1, 2)?;
-    greys(rt, b"just within the limit    ", 6, 0, 2, 9)?;
-    greys(rt, b"nearest first            ", 12, 0, 4, 6)?;
-    greys(rt, b"the later pair alone     ", 0, 5, 9, 9)?;
-    greys(rt, b"all equal                ", 0, 8, 8, 8)?;
-    greys(rt, b"the largest limit        ", 2147483647, 0, 255, 0)?;
-    greys(rt, b"rounded down             ", 765, 0, 0, 254)?;
-    greys(rt, b"no limit                 ", -1, 8, 8, 8)
+    greys(rt, "all far apart", 2, [0, 1, 2])?;
+    greys(rt, "just within the limit", 6, [0, 2, 9])?;
+    greys(rt, "nearest first", 12, [0, 4, 6])?;
+    greys(rt, "the later pair alone", 0, [5, 9, 9])?;
+    greys(rt, "all equal", 0, [8, 8, 8])?;
+    greys(rt, "the largest limit", i32::MAX, [0, 255, 0])?;
+    greys(rt, "rounded down", 765, [0, 0, 254])?;
+    greys(rt, "no limit", -1, [8, 8, 8])
 }
 
 // Four pixels in a square, and five paints.
-fn square(
-    rt: &impl Print,
-    name: &[u8],
-    limit: i32,
-    a: u32,
-    b: u32,
-    c: u32,
-    d: u32,
-) -> io::Result<()> {
-    let mut labels = [a, b, c, d];
-    let mut colours = [10u8, 20, 30, 10, 20, 30, 9, 9, 9, 9, 9, 9, 12, 22, 33];
-    let mut work = [7u32; 72];
-    let mut regions = [7u32; 60];
-    row(
-        rt,
-        name,
-        size(2, 2, 5),
-        limit,
-        &mut labels,
-        &mut colours,
-        &mut work,
-        &mut regions,
-    )
+fn square(rt: &impl Print, name: &str, limit: i32, labels: [u32; 4]) -> io::Result<()> {
+    let mut labels = labels;
+    let stores = Stores {
+        labels: &mut labels,
+        colours: &mut [10, 20, 30, 10, 20, 30, 9, 9, 9, 9, 9, 9, 12, 22, 33],
+        work: &mut [7; 72],
+        regions: &mut [7; 60],
+    };
+    stores.merge(rt, name, size(2, 2, 5), limit)
 }
 
 fn squares(rt: &impl Print) -> io::Result<()> {
-    square(rt, b"by first pixel           ", 7, 4, 4, 1, 1)?;
-    square(
-        rt,
-        b"a corner does not touch  ",
-        765,
-        0,
-        OUTSIDE,
-        OUTSIDE,
-        1,
-    )?;
-    square(
-        rt,
-        b"nothing but OUTSIDE      ",
-        0,
-        OUTSIDE,
-        OUTSIDE,
-        OUTSIDE,
-        OUTSIDE,
-    )
+    square(rt, "by first pixel", 7, [4, 4, 1, 1])?;
+    square(rt, "a corner does not touch", 765, [0, OUTSIDE, OUTSIDE, 1])?;
+    square(rt, "nothing but OUTSIDE", 0, [OUTSIDE; 4])
 }
 
-// Two pixels of two paints with equal colours, and what a call may lack.
+// Two pixels of two paints with equal colours, and so many bytes and words lent.
 fn lacks(
     rt: &impl Print,
-    name: &[u8],
+    name: &str,
     s: Size,
     first: u32,
     limit: i32,
-    bytes: usize,
-    words: usize,
-    rooms: usize,
+    colours: usize,
+    work: usize,
+    regions: usize,
 ) -> io::Result<()>
-    requires { (bytes ≤ 7) × (words ≤ 48) × (rooms ≤ 24) }
+    requires colours { colours ≤ 7 }
+    requires work { work ≤ 48 }
+    requires regions { regions ≤ 24 }
 {
-    let mut labels = [first, 1];
-    let mut colours = [3u8; 7];
-    let mut work = [7u32; 48];
-    let mut regions = [7u32; 24];
-    row(
-        rt,
-        name,
-        s,
-        limit,
-        &mut labels,
-        &mut colours[..bytes],
-        &mut work[..words],
-        &mut regions[..rooms],
-    )
+    let stores = Stores {
+        labels: &mut [first, 1],
+        colours: &mut [3; 7][..colours],
+        work: &mut [7; 48][..work],
+        regions: &mut [7; 24][..regions],
+    };
+    stores.merge(rt, name, s, limit)
 }
 
 fn refused(rt: &impl Print) -> io::Result<()> {
-    lacks(
-        rt,
-        b"a long side              ",
-        size(16385, 1, 2),
-        2,
-        0,
-        5,
-        0,
-        0,
-    )?;
-    lacks(
-        rt,
-        b"another label count      ",
-        size(2, 2, 2),
-        2,
-        0,
-        5,
-        0,
-        0,
-    )?;
-    lacks(
-        rt,
-        b"an unpainted label       ",
-        size(2, 1, 2),
-        2,
-        0,
-        5,
-        0,
-        0,
-    )?;
-    lacks(
-        rt,
-        b"the same without a merge ",
-        size(2, 1, 2),
-        2,
-        -1,
-        5,
-        48,
-        0,
-    )?;
-    lacks(
-        rt,
-        b"and with one paint       ",
-        size(2, 1, 1),
-        2,
-        0,
-        5,
-        48,
-        0,
-    )?;
-    lacks(
-        rt,
-        b"a short work store       ",
-        size(2, 1, 2),
-        0,
-        0,
-        5,
-        47,
-        0,
-    )?;
-    lacks(
-        rt,
-        b"a byte too few           ",
-        size(2, 1, 2),
-        0,
-        0,
-        5,
-        48,
-        24,
-    )?;
-    lacks(
-        rt,
-        b"a byte too many          ",
-        size(2, 1, 2),
-        0,
-        0,
-        7,
-        48,
-        24,
-    )?;
-    lacks(
-        rt,
-        b"a short region store     ",
-        size(2, 1, 2),
-        0,
-        0,
-        6,
-        48,
-        23,
-    )?;
-    lacks(
-        rt,
-        b"nothing lacks            ",
-        size(2, 1, 2),
-        0,
-        0,
-        6,
-        48,
-        24,
-    )
+    let pair = size(2, 1, 2);
+    lacks(rt, "a long side", size(16385, 1, 2), 2, 0, 5, 0, 0)?;
+    lacks(rt, "another label count", size(2, 2, 2), 2, 0, 5, 0, 0)?;
+    lacks(rt, "an unpainted label", pair, 2, 0, 5, 0, 0)?;
+    lacks(rt, "the same without a merge", pair, 2, -1, 5, 48, 0)?;
+    lacks(rt, "and with one paint", size(2, 1, 1), 2, 0, 5, 48, 0)?;
+    lacks(rt, "a short work store", pair, 0, 0, 5, 47, 0)?;
+    lacks(rt, "a byte too few", pair, 0, 0, 5, 48, 24)?;
+    lacks(rt, "a byte too many", pair, 0, 0, 7, 48, 24)?;
+    lacks(rt, "a short region store", pair, 0, 0, 6, 48, 23)?;
+    lacks(rt, "nothing lacks", pair, 0, 0, 6, 48, 24)
 }
 
 fn main(rt: HostRuntime) -> io::Result<()> {

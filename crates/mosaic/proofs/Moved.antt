@@ -1,21 +1,12 @@
 -- A move in words: what each says, and that the words leave no choice.
 use Prim.Native.Nat.{ℕ}
-use mathlib.Core.Path.{◌≡◌, refl, sym, ap, subst, ◌∙◌}
+use mathlib.Core.Path.{◌≡◌, refl, sym, subst, ◌∙◌}
 use mathlib.Core.List.{List, [], ◌∷◌}
 use lib.Ieee.{Float}
 use Rattle.sheet.specs.Moving.{Said, said, told, tell_of}
-use Rattle.sheet.specs.declared.Move.{Move}
-use Rattle.sheet.specs.declared.Move.TheVariants.{Travel, Cut}
 use Rattle.sheet.specs.declared.Mover.{Mover}
 use Rattle.sheet.specs.declared.Step.{Step}
 use Rattle.mosaic.specs.Moved.{code_of, point_after, MoveTold}
-
-module _ (m : Move) (x y : Float) (old : List Float) where
-  pub travel_words : m ≡ Travel x y → (0 ≡ code_of (said m)) × (x ∷ y ∷ [] ≡ point_after (said m) old)
-  travel_words e = (sym (ap (λ (m : Move). code_of (said m)) e), sym (ap (λ (m : Move). point_after (said m) old) e))
-
-  pub cut_words : m ≡ Cut x y → (1 ≡ code_of (said m)) × (x ∷ y ∷ [] ≡ point_after (said m) old)
-  cut_words e = (sym (ap (λ (m : Move). code_of (said m)) e), sym (ap (λ (m : Move). point_after (said m) old) e))
 
 pub move_told : (segs points : List ℕ) (start : Mover) (s : Step) (old : List Float) (code : ℕ) (point : List Float) → told s ≡ tell_of segs points start
     → (code ≡ code_of (said s.made)) × (point ≡ point_after (said s.made) old)

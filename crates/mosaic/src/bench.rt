@@ -25,20 +25,17 @@ pub fn mosaic_assemble(
     ensures { answered answer.new (work.new ∷ references.new ∷ contours.new ∷ faces.new ∷ []) ≡ assemble_of (map_in mode width height paints labels.now) (given nodes.now node_count segments.now segment_count points.now) work.old references.old contours.old faces.old }
 {
     let s = calls::sized(mode, width, height, paints);
-    crate::put_answer(
-        answer,
-        workbench::assemble(
-            s,
-            labels,
-            work,
-            nodes,
-            node_count,
-            segments,
-            segment_count,
-            points,
-            references,
-            contours,
-            faces,
-        ),
-    );
+    *answer = calls::words(workbench::assemble(
+        s,
+        labels,
+        work,
+        nodes,
+        node_count,
+        segments,
+        segment_count,
+        points,
+        references,
+        contours,
+        faces,
+    ));
 }

@@ -12,5 +12,5 @@ pub fn mosaic_layers(
 ) -> u32
     ensures { flat result labels.new ≡ flatten_of width height layers.now masks.now labels.old }
 {
-    layers::flatten(width, height, layers, masks, labels)
+    crate::number(layers::flatten(width, height, layers, masks, labels))
 }

@@ -1,4 +1,5 @@
 // The library for C programs: each function is one of the calls. A slice is a pointer and a length, the answer a pointer to eight words.
+// Kept, points 5 and 6: each store is a pointer and a length of its own, in words and lent, as the C interface has them.
 #![tactic(auto)]
 
 pub mod bench;
@@ -11,11 +12,12 @@ pub mod on_sheet;
 pub mod trays;
 
 ghost use Rattle.std.specs.Prelude.{◌≡◌, [], ◌∷◌};
+ghost use Rattle.rules.specs.Refusals.{number_in};
 ghost use Rattle.rules.specs.Calls.{size as size_of, graph as graph_of, whole as whole_of};
-ghost use Rattle.calls.specs.Outcome.{answer_words, answered};
+ghost use Rattle.calls.specs.Outcome.{answered};
 ghost use Rattle.calls.specs.Mode.{map_in};
 
-use calls::Answer;
+use rules::Refusal;
 
 // MOSAIC_VERSION of the header that this library goes with.
 pub fn mosaic_version() -> u32
@@ -24,19 +26,14 @@ pub fn mosaic_version() -> u32
     20000
 }
 
-fn put_answer(answer: &mut [u32; 8], a: Answer)
-    ensures { answer.new ≡ answer_words a }
+// The number of a call, 0 when it was not refused.
+fn number(outcome: Result<(), Refusal>) -> u32
+    ensures { result ≡ number_in outcome }
 {
-    *answer = [
-        a.number,
-        a.nodes,
-        a.segments,
-        a.points,
-        a.references,
-        a.contours,
-        a.faces,
-        a.steps,
-    ];
+    match outcome {
+        Ok(()) => 0,
+        Err(refusal) => refusal.number(),
+    }
 }
 
 pub fn mosaic_size(
@@ -51,7 +48,7 @@ pub fn mosaic_size(
     ensures { answered answer.new (work.new ∷ []) ≡ size_of (map_in mode width height paints labels.now) work.old }
 {
     let s = calls::sized(mode, width, height, paints);
-    put_answer(answer, calls::size(s, labels, work));
+    *answer = calls::words(calls::size(s, labels, work));
 }
 
 pub fn mosaic_graph(
@@ -69,10 +66,7 @@ pub fn mosaic_graph(
     ensures { answered answer.new (work.new ∷ nodes.new ∷ segments.new ∷ points.new ∷ []) ≡ graph_of (map_in mode width height paints labels.now) work.old nodes.old segments.old points.old }
 {
     let s = calls::sized(mode, width, height, paints);
-    put_answer(
-        answer,
-        calls::graph(s, labels, work, nodes, segments, points),
-    );
+    *answer = calls::words(calls::graph(s, labels, work, nodes, segments, points));
 }
 
 pub fn mosaic_whole(
@@ -93,10 +87,7 @@ pub fn mosaic_whole(
     ensures { answered answer.new (work.new ∷ nodes.new ∷ segments.new ∷ points.new ∷ references.new ∷ contours.new ∷ faces.new ∷ []) ≡ whole_of (map_in mode width height paints labels.now) work.old nodes.old segments.old points.old references.old contours.old faces.old }
 {
     let s = calls::sized(mode, width, height, paints);
-    put_answer(
-        answer,
-        calls::whole(
-            s, labels, work, nodes, segments, points, references, contours, faces,
-        ),
-    );
+    *answer = calls::words(calls::whole(
+        s, labels, work, nodes, segments, points, references, contours, faces,
+    ));
 }

@@ -18,6 +18,8 @@ pub fn mosaic_listing(
     ensures { listed_words answer.new (work.new ∷ words.new ∷ []) ≡ listing_call (map_in mode width height paints labels.now) work.old named.now words.old }
 {
     let s = calls::sized(mode, width, height, paints);
-    let a = listing::listing(s, labels, work, named, words);
-    *answer = [a.number, a.length];
+    *answer = match listing::listing(s, labels, work, named, words) {
+        Ok(length) => [0, length],
+        Err(refusal) => [refusal.number(), 0],
+    };
 }

@@ -17,5 +17,5 @@ pub fn mosaic_veneer(
     ensures { measured_words answer.new work.new sums.new ≡ veneer_of (map_in mode width height paints labels.now) work.old sums.old }
 {
     let s = calls::sized(mode, width, height, paints);
-    crate::put_answer(answer, veneer::veneer(s, labels, work, sums));
+    *answer = calls::words(veneer::veneer(s, labels, work, sums));
 }

@@ -18,6 +18,8 @@ pub fn mosaic_merge(
     ensures { answered answer.new labels.new colours.new work.new regions.new ≡ merge_of (map_in 0 width height paints labels.old) limit colours.old work.old regions.old }
 {
     let s = calls::sized(0, width, height, paints);
-    let a = merge::merge(s, limit, labels, colours, work, regions);
-    *answer = [a.number, a.paints];
+    *answer = match merge::merge(s, limit, labels, colours, work, regions) {
+        Ok(paints) => [0, paints],
+        Err(refusal) => [refusal.number(), 0],
+    };
 }

@@ -8,6 +8,7 @@ ghost use Rattle.sheet.specs.Moving.{said, tell_of};
 ghost use Rattle.calls.specs.Mode.{map_in};
 ghost use Rattle.mosaic.specs.Moved.{code_of, point_after, mover_at, MoveTold};
 
+use rules::Refusal;
 use sheet::{Move, Mover, Place, Sheet};
 
 // The whole cut list of a map that is to be cut from a sheet.
@@ -36,29 +37,26 @@ pub fn mosaic_sheet_whole(
         height: sheet_height,
     };
     let s = calls::sized(mode, width, height, paints);
-    crate::put_answer(
-        answer,
-        sheet::whole_on_sheet(
-            sheet, s, labels, work, nodes, segments, points, references, contours, faces,
-        ),
-    );
+    *answer = calls::words(sheet::whole_on_sheet(
+        sheet, s, labels, work, nodes, segments, points, references, contours, faces,
+    ));
 }
 
 // The number of a move; its point, if it has one, goes to `point`.
-fn put_move(made: Move, point: &mut [f64; 2]) -> u32
+fn put_move(made: Result<Option<Move>, Refusal>, point: &mut [f64; 2]) -> u32
     ensures { (result ≡ code_of (said made)) × (point.new ≡ point_after (said made) point.old) }
 {
     match made {
-        Move::Travel { x, y } => {
+        Ok(Some(Move::Travel { x, y })) => {
             *point = [x, y];
             0
         }
-        Move::Cut { x, y } => {
+        Ok(Some(Move::Cut { x, y })) => {
             *point = [x, y];
             1
         }
-        Move::End => 2,
-        Move::Outside => 10,
+        Ok(None) => 2,
+        Err(refusal) => refusal.number(),
     }
 }
 
@@ -94,9 +92,7 @@ pub fn mosaic_move(
         at: place,
     };
     let step = start.step(segments, points);
-    let mover = step.mover;
-    let next = mover.at;
+    let next = step.mover.at;
     *at = [next.segment, next.place];
-    let made = step.made;
-    put_move(made, point)
+    put_move(step.made, point)
 }

@@ -18,7 +18,7 @@ pub fn mosaic_tray(
 ) -> u32
     ensures { afterwards result work.new (stores_with nodes.new segments.new points.new references.new contours.new faces.new) answers.new ≡ tray_of mode maps.now labels.now work.old (stores_with nodes.old segments.old points.old references.old contours.old faces.old) answers.old }
 {
-    tray::tray(
+    crate::number(tray::tray(
         mode, maps, labels, work, nodes, segments, points, references, contours, faces, answers,
-    )
+    ))
 }

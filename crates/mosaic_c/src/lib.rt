@@ -1,4 +1,5 @@
 // The exports of the archive for C programs: each is the function of its name in `mosaic`, and promises the same.
+// Kept, point 2: each function stands in `mosaic` too, since a crate is a library or a static library and C has one name for both.
 #![tactic(auto)]
 
 mod bench;

@@ -18,24 +18,23 @@ use Rattle.rules.proofs.Tracing.Partition.{describes}
 use Rattle.rules.proofs.Tracing.Counts.{has_step}
 use Rattle.rules.proofs.CutList.Lengths.{length_records, length_segments}
 use Rattle.rules.proofs.CutList.Records.{first_point, record_of, segment_word_lem, point_word}
-use Rattle.reader.specs.Reading.{Said, said, reads}
-use Rattle.reader.specs.declared.Corner.TheVariants.{At, End}
+use Rattle.reader.specs.Reading.{Said, at_corner, at_end, reads}
 use Rattle.reader.proofs.Runs.{part_of, run_forward, run_reversed}
 
 -- the corners that point words are
 unfoldable pub corners : List ℕ → List Said
 corners [] = []
 corners (x ∷ []) = []
-corners (x ∷ y ∷ more) = said (At x y) ∷ corners more
+corners (x ∷ y ∷ more) = at_corner x y ∷ corners more
 
 -- what a segment is read as from the words of the segment store and the point store
 pub record ReadBack (segs points : List ℕ) (i : ℕ) (s : List Dart) : Type 0 where
   pub forward : (more : ℕ)
       → reads points (get_or segs (8 * i) 0) (get_or segs (8 * i + 1) 0) false (get_or segs (8 * i + 1) 0 + more) 0
-      ≡ corners (point_records s) ++ replicate more (said End)
+      ≡ corners (point_records s) ++ replicate more at_end
   pub reversed : (more : ℕ)
       → reads points (get_or segs (8 * i) 0) (get_or segs (8 * i + 1) 0) true (get_or segs (8 * i + 1) 0 + more) 0
-      ≡ reverse (corners (point_records s)) ++ replicate more (said End)
+      ≡ reverse (corners (point_records s)) ++ replicate more at_end
 
 -- a part of a store whose words are l
 part_corners : (ws l : List ℕ) (f n : ℕ) → length l ≡ 2 * n → ((k : ℕ) → k < 2 * n → get_or ws (2 * f + k) 0 ≡ get_or l k 0) → part_of ws f n ≡ corners l

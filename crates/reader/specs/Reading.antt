@@ -1,8 +1,10 @@
 -- What the segment reader says at each call, and a run of its calls (docs/RULES.md, "The segment reader").
-use Rattle.std.specs.Prelude.{ℕ, zero, suc, ◌+◌, ◌*◌, ◌-◌, ◌/◌, Bool, true, false, cond, List, [], ◌∷◌, leb, ltb, length, get_or}
+use Rattle.std.specs.Prelude.{ℕ, zero, suc, ◌+◌, ◌*◌, ◌-◌, ◌/◌, Bool, true, false, cond, Option, None, Some, Result, Ok, Err, List, [], ◌∷◌, leb, ltb, length, get_or}
 use Rattle.std.specs.Borrow.{Bor}
+use Rattle.rules.specs.declared.Refusal.{Refusal}
+use Rattle.rules.specs.declared.Refusal.TheVariants.{OutsidePoints}
+use Rattle.rules.specs.Refusals.{number_of}
 use Rattle.reader.specs.declared.Corner.{Corner}
-use Rattle.reader.specs.declared.Corner.TheVariants.{At, End, Outside}
 use Rattle.reader.specs.declared.Step.{Step}
 use Rattle.reader.specs.declared.Reader.{Reader}
 
@@ -13,20 +15,29 @@ pub record Said : Type 0 where
   pub number : ℕ
   pub corner : List ℕ
 
-abbrev pub said : Corner → Said
-said (At x y) = record { number = 0; corner = x ∷ y ∷ [] }
-said End = record { number = 0; corner = [] }
-said Outside = record { number = 10; corner = [] }
+abbrev pub said : Result (Option Corner) Refusal → Said
+said (Ok (Some c)) = record { number = 0; corner = c.x ∷ c.y ∷ [] }
+said (Ok None) = record { number = 0; corner = [] }
+said (Err r) = record { number = number_of r; corner = [] }
 
 -- of a step, with the place of the next call
 abbrev pub told : Step → Said × ℕ
 told s = (said s.corner, s.place)
 
+abbrev pub at_corner : ℕ → ℕ → Said
+at_corner x y = said (Ok (Some (record { x = x; y = y })))
+
+abbrev pub at_end : Said
+at_end = said (Ok None)
+
+abbrev pub outside_points : Said
+outside_points = said (Err OutsidePoints)
+
 -- ONE CALL
 
 -- the point with a number
 abbrev pub point_at : List ℕ → ℕ → Said
-point_at points i = said (At (get_or points (2 * i) 0) (get_or points (2 * i + 1) 0))
+point_at points i = at_corner (get_or points (2 * i) 0) (get_or points (2 * i + 1) 0)
 
 -- the number of the point that is handed out at a place
 abbrev pub number_at : Bool → ℕ → ℕ → ℕ → ℕ
@@ -36,7 +47,7 @@ number_at false first count place = first + place
 -- outside, where the exact sum is above the number of points that the store holds; past the last corner the end; else the corner
 abbrev pub say_at : List ℕ → ℕ → ℕ → Bool → ℕ → Said
 say_at points first count reversed place =
-    cond (ltb (length points / 2) (first + count)) (said Outside) (cond (leb count place) (said End) (point_at points (number_at reversed first count place)))
+    cond (ltb (length points / 2) (first + count)) outside_points (cond (leb count place) at_end (point_at points (number_at reversed first count place)))
 
 -- the place moves until it is past the last corner
 abbrev pub tell_at : List ℕ → ℕ → ℕ → Bool → ℕ → Said × ℕ

@@ -5,60 +5,55 @@
 ghost use Rattle.std.specs.Prelude.{◌≡◌};
 ghost use Rattle.reader.specs.Reading.{said, told, say_at, tell_at, start_of, tell_of, moved_to};
 
-#[derive(Clone, Copy)]
-pub enum Corner {
-    At { x: u32, y: u32 },
-    End,
-    // Number 10: the part does not lie inside the store.
-    Outside,
+use rules::Refusal;
+
+#[derive(Clone, Copy, Debug, PartialEq, Eq)]
+pub struct Corner {
+    pub x: u32,
+    pub y: u32,
 }
 
 // What a call hands out, and the place of the next call.
 #[derive(Clone, Copy)]
 pub struct Step {
-    pub corner: Corner,
+    pub corner: Result<Option<Corner>, Refusal>,
     pub place: u32,
 }
 
-// The corner after `place` others of the part that starts at the point `first` and has `count` points.
-pub fn corner_at(points: &[u32], first: u32, count: u32, reversed: bool, place: u32) -> Corner
+// Kept, point 5: a public call with plain values, named in docs/PROMISES.md, as `step_at` and `read_at` are; `Reader` keeps them together.
+// The corner after `place` others of the part that starts at the point `first` and has `count` points; past the last one there is none.
+pub fn corner_at(
+    points: &[u32],
+    first: u32,
+    count: u32,
+    reversed: bool,
+    place: u32,
+) -> Result<Option<Corner>, Refusal>
     ensures { said result ≡ say_at points.now first count reversed place }
 {
     let f = first as usize;
     let n = count as usize;
     let p = place as usize;
     if points.len() / 2 < f + n {
-        return Corner::Outside;
+        return Err(Refusal::OutsidePoints);
     }
     if n <= p {
-        return Corner::End;
+        return Ok(None);
     }
-    if reversed {
-        let i = f + n - p - 1;
-        return Corner::At {
-            x: store::at(points, 2 * i),
-            y: store::at(points, 2 * i + 1),
-        };
-    }
-    let i = f + p;
-    Corner::At {
+    let i = if reversed { f + n - p - 1 } else { f + p };
+    Ok(Some(Corner {
         x: store::at(points, 2 * i),
         y: store::at(points, 2 * i + 1),
-    }
+    }))
 }
 
 // The same, with the place of the next call: past the last corner it stays.
 pub fn step_at(points: &[u32], first: u32, count: u32, reversed: bool, place: u32) -> Step
     ensures { told result ≡ tell_at points.now first count reversed place }
 {
-    let corner = corner_at(points, first, count, reversed, place);
-    if place < count {
-        Step {
-            corner,
-            place: place + 1,
-        }
-    } else {
-        Step { corner, place }
+    Step {
+        corner: corner_at(points, first, count, reversed, place),
+        place: if place < count { place + 1 } else { place },
     }
 }
 
@@ -72,35 +67,31 @@ pub struct Reader<'a> {
     pub place: u32,
 }
 
-pub fn new<'a>(points: &'a [u32], first: u32, count: u32, reversed: bool) -> Reader<'a>
-    ensures { result ≡ start_of points.entry first count reversed }
-{
-    Reader {
-        points,
-        first,
-        end: count,
-        reversed,
-        place: 0,
+impl<'a> Reader<'a> {
+    pub fn new(points: &'a [u32], first: u32, count: u32, reversed: bool) -> Reader<'a>
+        ensures { result ≡ start_of points.entry first count reversed }
+    {
+        Reader {
+            points,
+            first,
+            end: count,
+            reversed,
+            place: 0,
+        }
     }
-}
 
-// What the next call hands out, and its place.
-pub fn next<'a>(r: Reader<'a>) -> Step
-    ensures { told result ≡ tell_of r.entry }
-{
-    step_at(r.points, r.first, r.end, r.reversed, r.place)
-}
+    // What the next call hands out, and its place.
+    pub fn step(self) -> Step
+        ensures { told result ≡ tell_of self.entry }
+    {
+        step_at(self.points, self.first, self.end, self.reversed, self.place)
+    }
 
-// The reader at another place.
-pub fn moved<'a>(r: Reader<'a>, place: u32) -> Reader<'a>
-    ensures { result ≡ moved_to r.entry place }
-{
-    Reader {
-        points: r.points,
-        first: r.first,
-        end: r.end,
-        reversed: r.reversed,
-        place,
+    // The reader at another place.
+    pub fn moved(self, place: u32) -> Reader<'a>
+        ensures { result ≡ moved_to self.entry place }
+    {
+        Reader { place, ..self }
     }
 }
 
@@ -108,5 +99,7 @@ pub fn moved<'a>(r: Reader<'a>, place: u32) -> Reader<'a>
 pub fn read_at(points: &[u32], first: u32, count: u32, reversed: bool, place: u32) -> Step
     ensures { told result ≡ tell_at points.now first count reversed place }
 {
-    next(moved(new(points, first, count, reversed), place))
+    Reader::new(points, first, count, reversed)
+        .moved(place)
+        .step()
 }

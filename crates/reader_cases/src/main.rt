@@ -1,109 +1,107 @@
 // Runs the segment reader on plain and odd parts of a point store, and prints what six calls say, a row for each part.
 #![tactic(auto)]
 
+use Way::{Forward, Reversed};
 use reader::Corner;
-use std::io;
+use rules::Refusal;
+use std::{fmt, io};
 
-// A number, and spaces before it up to a width of eleven.
-fn column(rt: &impl Print, n: u32) -> io::Result<()> {
-    print!(rt; "{n:>11}")
+// Which way a segment is read.
+#[derive(Clone, Copy)]
+enum Way {
+    Forward,
+    Reversed,
 }
 
-fn say(rt: &impl Print, corner: Corner) -> io::Result<()> {
-    match corner {
-        Corner::At { x, y } => print!(rt; " {x},{y}"),
-        Corner::End => print!(rt; " end"),
-        Corner::Outside => print!(rt; " 10"),
+impl fmt::Display for Way {
+    fn fmt<W: fmt::Write>(&self, f: &mut fmt::Formatter<W>) -> fmt::Result {
+        f.pad(match self {
+            Forward => "forward",
+            Reversed => "reversed",
+        })
     }
 }
 
-fn six_calls(
-    rt: &impl Print,
-    points: &[u32],
-    first: u32,
-    count: u32,
-    reversed: bool,
-    from: u32,
-) -> io::Result<()> {
-    let mut place = from;
-    for _ in 0..6 {
-        let s = reader::read_at(points, first, count, reversed, place);
-        say(rt, s.corner)?;
-        place = s.place;
+// What a call said.
+#[derive(Drop)]
+struct Said(Result<Option<Corner>, Refusal>);
+
+impl fmt::Display for Said {
+    fn fmt<W: fmt::Write>(&self, f: &mut fmt::Formatter<W>) -> fmt::Result {
+        match self.0 {
+            Ok(Some(Corner { x, y })) => write!(f, "{x},{y}"),
+            Ok(None) => write!(f, "end"),
+            Err(why) => write!(f, "{}", why.number()),
+        }
     }
-    Ok(())
 }
 
+fn heading(rt: &impl Print) -> io::Result<()> {
+    println!(rt;
+        "{:24}{:>11}{:>11}{:>11}  way       six calls",
+        "", "first", "count", "place"
+    )
+}
+
+// Six calls on the part that starts at the point `first` and has `count` points, the first of them at the given place.
 fn row(
     rt: &impl Print,
-    label: &[u8],
+    name: &str,
     points: &[u32],
     first: u32,
     count: u32,
-    reversed: bool,
+    way: Way,
     place: u32,
 ) -> io::Result<()> {
-    rt.write_all(label)?;
-    column(rt, first)?;
-    column(rt, count)?;
-    column(rt, place)?;
-    if reversed {
-        print!(rt; "  reversed ")?;
-    } else {
-        print!(rt; "  forward  ")?;
+    print!(rt; "{name:<24}{first:>11}{count:>11}{place:>11}  {way:<9}")?;
+    let reversed = matches!(way, Reversed);
+    let mut place = place;
+    for _ in 0..6 {
+        let step = reader::read_at(points, first, count, reversed, place);
+        print!(rt; " {}", Said(step.corner))?;
+        place = step.place;
     }
-    six_calls(rt, points, first, count, reversed, place)?;
     println!(rt)
-}
-
-fn title(rt: &impl Print, store: &[u8]) -> io::Result<()> {
-    rt.write_all(store)?;
-    println!(rt; "                              first      count      place  way       six calls")
 }
 
 fn even(rt: &impl Print) -> io::Result<()> {
     let p = [1, 0, 2, 0, 2, 1, 1, 1, 1, 0, 1, 1];
-    title(rt, b"12 words, 6 points\n")?;
-    row(rt, b"a segment               ", &p, 0, 4, false, 0)?;
-    row(rt, b"the same                ", &p, 0, 4, true, 0)?;
-    row(rt, b"from its third corner   ", &p, 0, 4, false, 2)?;
-    row(rt, b"the same                ", &p, 0, 4, true, 2)?;
-    row(rt, b"long after its end      ", &p, 0, 4, false, 4294967295)?;
-    row(rt, b"to the last point       ", &p, 4, 2, false, 0)?;
-    row(rt, b"one point too many      ", &p, 5, 2, false, 0)?;
-    row(rt, b"no points               ", &p, 2, 0, false, 0)?;
-    row(rt, b"none, at the end        ", &p, 6, 0, true, 0)?;
-    row(rt, b"none, past the end      ", &p, 7, 0, false, 0)?;
-    row(rt, b"a sum of 2^32           ", &p, 4294967295, 1, false, 0)?;
-    row(rt, b"a sum of 2^32 + 2       ", &p, 4294967290, 8, true, 0)?;
-    row(
-        rt,
-        b"the largest numbers     ",
-        &p,
-        4294967295,
-        4294967295,
-        true,
-        4294967295,
-    )
+    let most = u32::MAX;
+    println!(rt; "12 words, 6 points")?;
+    heading(rt)?;
+    row(rt, "a segment", &p, 0, 4, Forward, 0)?;
+    row(rt, "the same", &p, 0, 4, Reversed, 0)?;
+    row(rt, "from its third corner", &p, 0, 4, Forward, 2)?;
+    row(rt, "the same", &p, 0, 4, Reversed, 2)?;
+    row(rt, "long after its end", &p, 0, 4, Forward, most)?;
+    row(rt, "to the last point", &p, 4, 2, Forward, 0)?;
+    row(rt, "one point too many", &p, 5, 2, Forward, 0)?;
+    row(rt, "no points", &p, 2, 0, Forward, 0)?;
+    row(rt, "none, at the end", &p, 6, 0, Reversed, 0)?;
+    row(rt, "none, past the end", &p, 7, 0, Forward, 0)?;
+    row(rt, "a sum of 2^32", &p, most, 1, Forward, 0)?;
+    row(rt, "a sum of 2^32 + 2", &p, most - 5, 8, Reversed, 0)?;
+    row(rt, "the largest numbers", &p, most, most, Reversed, most)
 }
 
 fn odd(rt: &impl Print) -> io::Result<()> {
     let p = [1, 0, 2, 0, 2, 1, 9];
-    title(rt, b"\n7 words, 3 points and a word over\n")?;
-    row(rt, b"to the last whole point ", &p, 0, 3, false, 0)?;
-    row(rt, b"the same                ", &p, 0, 3, true, 0)?;
-    row(rt, b"into the word over      ", &p, 0, 4, true, 0)?;
-    row(rt, b"the word over           ", &p, 3, 1, false, 0)?;
-    row(rt, b"none, at the end        ", &p, 3, 0, false, 0)?;
-    row(rt, b"none, past the end      ", &p, 4, 0, false, 0)
+    println!(rt; "\n7 words, 3 points and a word over")?;
+    heading(rt)?;
+    row(rt, "to the last whole point", &p, 0, 3, Forward, 0)?;
+    row(rt, "the same", &p, 0, 3, Reversed, 0)?;
+    row(rt, "into the word over", &p, 0, 4, Reversed, 0)?;
+    row(rt, "the word over", &p, 3, 1, Forward, 0)?;
+    row(rt, "none, at the end", &p, 3, 0, Forward, 0)?;
+    row(rt, "none, past the end", &p, 4, 0, Forward, 0)
 }
 
 fn none(rt: &impl Print) -> io::Result<()> {
-    let p: [u32; 0] = [];
-    title(rt, b"\nan empty store\n")?;
-    row(rt, b"none                    ", &p, 0, 0, true, 0)?;
-    row(rt, b"none, past the end      ", &p, 1, 0, false, 0)?;
-    row(rt, b"one                     ", &p, 0, 1, false, 0)
+    println!(rt; "\nan empty store")?;
+    heading(rt)?;
+    row(rt, "none", &[], 0, 0, Reversed, 0)?;
+    row(rt, "none, past the end", &[], 1, 0, Forward, 0)?;
+    row(rt, "one", &[], 0, 1, Forward, 0)
 }
 
 fn main(rt: HostRuntime) -> io::Result<()> {

@@ -4,272 +4,250 @@
 
 ghost use Rattle.std.specs.Prelude.{◌≡◌, ◌≤◌, length};
 
-use calls::Answer;
+use calls::{Counts, Refused};
 use lattice::Size;
 use std::io;
 
 // What a store holds before a call: a word that no record of the data has.
 const OLD: u32 = 3000000000;
 
-// How far the data is read, and what was compared.
+// DATA
+
+// The bytes that are left of the data, or None once more was read than there is.
 #[derive(Clone, Copy)]
-struct Tally {
-    at: usize,
-    words: u64,
-    differences: u64,
-}
+struct Data<'a>(Option<&'a [u8]>);
 
-// DATA (sums of places wrap, so that no proof has to follow them: the data ends long before they could)
-
-fn wide(b: u8) -> u32
-    ensures { result ≤ 255 }
-{
-    b as u32
-}
-
-// The byte at a place, 0 past the end.
-fn byte(data: &[u8], at: usize) -> u32
-    ensures { result ≤ 255 }
-{
-    if at < data.len() { wide(data[at]) } else { 0 }
-}
-
-// The word of the four bytes behind a place, the lowest first.
-fn four(data: &[u8], at: usize) -> u32 {
-    let b0 = byte(data, at.wrapping_add(1));
-    let b1 = byte(data, at.wrapping_add(2));
-    let b2 = byte(data, at.wrapping_add(3));
-    let b3 = byte(data, at.wrapping_add(4));
-    b0 + 256 * b1 + 65536 * b2 + 16777216 * b3
-}
-
-// The word whose code starts at a place: a byte below 254 is itself, 254 is 4294967295, and 255 stands before four bytes.
-fn word(data: &[u8], at: usize) -> u32 {
-    let b = byte(data, at);
-    if b == 255 {
-        return four(data, at);
+impl Data<'_> {
+    // The next word, 0 past the end: a byte below 254 is itself, 254 is 4294967295, and 255 stands before four bytes.
+    fn word(&mut self) -> u32 {
+        let Some((code, rest)) = self.0.and_then(|bytes| bytes.split_first()) else {
+            self.0 = None;
+            return 0;
+        };
+        self.0 = Some(rest);
+        match *code {
+            255 => {
+                let mut four = [0; 4];
+                for (byte, behind) in four.iter_mut().zip(rest) {
+                    *byte = *behind;
+                }
+                self.0 = rest.get(4..);
+                u32::from_le_bytes(four)
+            }
+            254 => u32::MAX,
+            byte => u32::from(byte),
+        }
     }
-    if b == 254 {
-        return 4294967295;
+
+    // The counts of a map.
+    fn counts(&mut self) -> Counts {
+        Counts {
+            nodes: self.word(),
+            segments: self.word(),
+            points: self.word(),
+            references: self.word(),
+            contours: self.word(),
+            faces: self.word(),
+            steps: self.word(),
+        }
     }
-    b
 }
 
-// The place behind that code.
-fn behind(data: &[u8], at: usize) -> usize {
-    if byte(data, at) == 255 {
-        return at.wrapping_add(5);
-    }
-    at.wrapping_add(1)
+// A map of the data, and what the calls count in it.
+#[derive(Drop)]
+struct Map<'a> {
+    size: Size,
+    labels: &'a [u32],
+    counts: Counts,
 }
+
+// STORES
+
+// Room for any map of the data, and a few words more.
+#[derive(Drop)]
+struct Stores {
+    work: [u32; 971],
+    nodes: [u32; 731],
+    segments: [u32; 1763],
+    points: [u32; 883],
+    references: [u32; 443],
+    contours: [u32; 243],
+    faces: [u32; 505],
+}
+
+impl Stores {
+    fn new() -> Stores {
+        Stores {
+            work: [OLD; 971],
+            nodes: [OLD; 731],
+            segments: [OLD; 1763],
+            points: [OLD; 883],
+            references: [OLD; 443],
+            contours: [OLD; 243],
+            faces: [OLD; 505],
+        }
+    }
+
+    // Old words everywhere, for the next call.
+    fn renew(&mut self) {
+        self.work.fill(OLD);
+        self.nodes.fill(OLD);
+        self.segments.fill(OLD);
+        self.points.fill(OLD);
+        self.references.fill(OLD);
+        self.contours.fill(OLD);
+        self.faces.fill(OLD);
+    }
+}
+
+// COMPARED
 
 // The places in so many columns and rows; none where there are more than 11, and the library's refusal is then a difference.
 fn area(columns: usize, rows: usize) -> usize
     ensures { result ≤ 121 }
 {
-    if 11 < columns {
-        return 0;
-    }
-    if 11 < rows {
+    if columns > 11 || rows > 11 {
         return 0;
     }
     columns * rows
 }
 
-// The words of so many records.
-fn times(size: usize, count: u32) -> usize
-    requires { size ≤ 8 }
-{
-    size * (count as usize)
+// What is left of the data, and what was compared.
+struct Replay<'a> {
+    data: Data<'a>,
+    words: usize,
+    differences: usize,
 }
 
-impl Tally {
-    // With one word compared.
-    fn word(self, found: u32, wanted: u32) -> Tally {
-        let mut t = self;
-        t.words = t.words.wrapping_add(1);
+impl Replay<'_> {
+    fn word(&mut self, found: u32, wanted: u32) {
+        self.words = self.words.wrapping_add(1);
         if found != wanted {
-            t.differences = t.differences.wrapping_add(1);
+            self.differences = self.differences.wrapping_add(1);
         }
-        t
     }
 
-    // With two stores compared, the second as long as the first.
-    fn same(self, found: &[u32], wanted: &[u32]) -> Tally {
-        let mut t = self;
-        for (i, word) in found.iter().enumerate() {
-            t = t.word(*word, store::get(wanted, i));
+    // Words that are all to be the same.
+    fn all(&mut self, found: &[u32], wanted: u32) {
+        for word in found {
+            self.word(*word, wanted);
         }
-        t
     }
 
-    // Past n words of the data, which are put into a store.
-    fn read(self, data: &[u8], words: &mut [u32], n: usize) -> Tally {
-        let mut t = self;
+    // A store that holds n words of the data, and behind them old words.
+    fn written(&mut self, found: &[u32], n: usize) {
         for i in 0..n {
-            let at = t.at;
-            store::put(words, i, word(data, at));
-            t.at = behind(data, at);
+            let wanted = self.data.word();
+            if let Some(word) = found.get(i) {
+                self.word(*word, wanted);
+            }
         }
-        t
+        self.all(found.get(n..).unwrap_or(&[]), OLD);
     }
 
-    // With a store compared that holds n words of the data, and behind them old words.
-    fn written(self, data: &[u8], found: &[u32], n: usize) -> Tally {
-        let mut wanted = [OLD; 1763];
-        let t = self.read(data, &mut wanted, n);
-        t.same(found, &wanted)
+    // The stores of the graph, which are next in the data.
+    fn drawn(&mut self, stores: &Stores, counts: Counts) {
+        self.written(&stores.nodes, 6 * counts.nodes as usize);
+        self.written(&stores.segments, 8 * counts.segments as usize);
+        self.written(&stores.points, 2 * counts.points as usize);
     }
 
-    // With a work store compared that was cleared as far as the map asks.
-    fn cleared(self, found: &[u32], s: Size) -> Tally {
-        let mut wanted = [OLD; 971];
+    // An answer, and a work store that was cleared as far as the map asks.
+    fn answered(
+        &mut self,
+        found: Result<Counts, Refused>,
+        counts: Counts,
+        stores: &Stores,
+        s: Size,
+    ) {
+        for (found, wanted) in calls::words(found).iter().zip(calls::words(Ok(counts))) {
+            self.word(*found, wanted);
+        }
         let corners = area(s.width as usize + 1, s.height as usize + 1);
-        store::fill(&mut wanted, 0, 8 * corners, 0);
-        self.same(found, &wanted)
+        let (cleared, rest) = stores.work.split_at(8 * corners);
+        self.all(cleared, 0);
+        self.all(rest, OLD);
     }
 
-    // With an answer compared: the number 0 and the counts.
-    fn answer(self, a: Answer, counts: [u32; 7]) -> Tally {
-        let found = [
-            a.number,
-            a.nodes,
-            a.segments,
-            a.points,
-            a.references,
-            a.contours,
-            a.faces,
-            a.steps,
-        ];
-        let wanted = [
-            0, counts[0], counts[1], counts[2], counts[3], counts[4], counts[5], counts[6],
-        ];
-        self.same(&found, &wanted)
+    // The call size.
+    fn size(&mut self, map: &Map, stores: &mut Stores) {
+        stores.renew();
+        let found = calls::size(map.size, map.labels, &mut stores.work);
+        self.answered(found, map.counts, stores, map.size);
     }
 
-    // With the call size compared on a map with these counts.
-    fn size(self, s: Size, labels: &[u32], counts: [u32; 7]) -> Tally {
-        let mut work = [OLD; 971];
-        let a = calls::size(s, labels, &mut work);
-        self.answer(a, counts).cleared(&work, s)
-    }
-
-    // With the call graph compared, whose stores are next in the data.
-    fn graph(self, data: &[u8], s: Size, labels: &[u32], counts: [u32; 7]) -> Tally {
-        let mut work = [OLD; 971];
-        let mut nodes = [OLD; 731];
-        let mut segments = [OLD; 1763];
-        let mut points = [OLD; 883];
-        let a = calls::graph(s, labels, &mut work, &mut nodes, &mut segments, &mut points);
-        let mut few = counts;
-        few[3] = 0;
-        few[4] = 0;
-        few[5] = 0;
-        let t = self.answer(a, few).cleared(&work, s);
-        t.drawn(data, &nodes, &segments, &points, counts)
-    }
-
-    // With the stores of the graph compared.
-    fn drawn(
-        self,
-        data: &[u8],
-        nodes: &[u32],
-        segments: &[u32],
-        points: &[u32],
-        counts: [u32; 7],
-    ) -> Tally {
-        let t = self.written(data, nodes, times(6, counts[0]));
-        let t = t.written(data, segments, times(8, counts[1]));
-        t.written(data, points, times(2, counts[2]))
-    }
-
-    // With the call whole compared, whose stores are next in the data.
-    fn whole(self, data: &[u8], s: Size, labels: &[u32], counts: [u32; 7]) -> Tally {
-        let mut work = [OLD; 971];
-        let mut nodes = [OLD; 731];
-        let mut segments = [OLD; 1763];
-        let mut points = [OLD; 883];
-        let mut references = [OLD; 443];
-        let mut contours = [OLD; 243];
-        let mut faces = [OLD; 505];
-        let a = calls::whole(
-            s,
-            labels,
-            &mut work,
-            &mut nodes,
-            &mut segments,
-            &mut points,
-            &mut references,
-            &mut contours,
-            &mut faces,
+    // The call graph.
+    fn graph(&mut self, map: &Map, stores: &mut Stores) {
+        stores.renew();
+        let found = calls::graph(
+            map.size,
+            map.labels,
+            &mut stores.work,
+            &mut stores.nodes,
+            &mut stores.segments,
+            &mut stores.points,
         );
-        let t = self.answer(a, counts).cleared(&work, s);
-        let t = t.drawn(data, &nodes, &segments, &points, counts);
-        let t = t.written(data, &references, times(1, counts[3]));
-        let t = t.written(data, &contours, times(2, counts[4]));
-        t.written(data, &faces, times(5, counts[5]))
-    }
-
-    // With the next map of the data compared.
-    fn map(self, data: &[u8]) -> Tally {
-        let mut head = [0u32; 4];
-        let t = self.read(data, &mut head, 4);
-        let s = Size {
-            width: head[0],
-            height: head[1],
-            paints: head[2],
-            bound: head[3],
+        let few = Counts {
+            references: 0,
+            contours: 0,
+            faces: 0,
+            ..map.counts
         };
-        let n = area(s.width as usize, s.height as usize);
-        let mut labels = [0u32; 121];
-        let t = t.read(data, &mut labels, n);
-        let mut counts = [0u32; 7];
-        let t = t.read(data, &mut counts, 7);
-        t.calls(data, s, &labels[..n], counts)
+        self.answered(found, few, stores, map.size);
+        self.drawn(stores, map.counts);
     }
 
-    // With the three calls compared on a map whose stores are next in the data.
-    fn calls(self, data: &[u8], s: Size, labels: &[u32], counts: [u32; 7]) -> Tally {
-        let at = self.at;
-        let mut t = self.size(s, labels, counts).graph(data, s, labels, counts);
-        t.at = at;
-        t.whole(data, s, labels, counts)
+    // The call whole.
+    fn whole(&mut self, map: &Map, stores: &mut Stores) {
+        stores.renew();
+        let found = calls::whole(
+            map.size,
+            map.labels,
+            &mut stores.work,
+            &mut stores.nodes,
+            &mut stores.segments,
+            &mut stores.points,
+            &mut stores.references,
+            &mut stores.contours,
+            &mut stores.faces,
+        );
+        let counts = map.counts;
+        self.answered(found, counts, stores, map.size);
+        self.drawn(stores, counts);
+        self.written(&stores.references, counts.references as usize);
+        self.written(&stores.contours, 2 * counts.contours as usize);
+        self.written(&stores.faces, 5 * counts.faces as usize);
     }
 
-    // With n maps of the data compared.
-    fn maps(self, data: &[u8], n: u32) -> Tally {
-        let mut t = self;
-        for _ in 0..n {
-            t = t.map(data);
+    // The three calls on the next map of the data.
+    fn map(&mut self, stores: &mut Stores) {
+        let size = Size {
+            width: self.data.word(),
+            height: self.data.word(),
+            paints: self.data.word(),
+            bound: self.data.word(),
+        };
+        let mut labels = [0; 121];
+        let labels = &mut labels[..area(size.width as usize, size.height as usize)];
+        for label in labels.iter_mut() {
+            *label = self.data.word();
         }
-        t
+        let map = Map {
+            size,
+            labels,
+            counts: self.data.counts(),
+        };
+        self.size(&map, stores);
+        // The stores of the graph stand in the data once, for both calls.
+        let records = self.data;
+        self.graph(&map, stores);
+        self.data = records;
+        self.whole(&map, stores);
     }
-}
-
-// Data that ends early or late is one difference more.
-fn ended(t: Tally, data: &[u8]) -> u64 {
-    if t.at == data.len() {
-        return t.differences;
-    }
-    t.differences.wrapping_add(1)
-}
-
-fn replay(rt: &impl Print, data: &[u8]) -> io::Result<()> {
-    let n = word(data, 0);
-    let start = Tally {
-        at: behind(data, 0),
-        words: 0,
-        differences: 0,
-    };
-    let t = start.maps(data, n);
-    let differences = ended(t, data);
-    println!(rt;
-        "{n} maps, {} words compared, {differences} differences",
-        t.words
-    )
 }
 
 // Room for the data.
+// Kept, point 8: a function of its own, since with the list of zeros in `main` the goal `slice_bounds-read_full-end` did not close.
 fn room() -> [u8; 1000000]
     ensures { 1000000 ≡ length result }
 {
@@ -277,7 +255,27 @@ fn room() -> [u8; 1000000]
 }
 
 fn main(rt: HostRuntime) -> io::Result<()> {
-    let mut data = room();
-    let n = intake::read_full(&mut rt.stdin(), &mut data)?;
-    replay(&rt, &data[..n])
+    let mut bytes = room();
+    let n = intake::read_full(&mut rt.stdin(), &mut bytes)?;
+    let mut replay = Replay {
+        data: Data(Some(&bytes[..n])),
+        words: 0,
+        differences: 0,
+    };
+    let mut stores = Stores::new();
+    let maps = replay.data.word();
+    for _ in 0..maps {
+        replay.map(&mut stores);
+    }
+    let Replay {
+        data,
+        words,
+        differences,
+    } = replay;
+    // Data that ends early or late is one difference more.
+    let differences = match data.0 {
+        Some([]) => differences,
+        _ => differences.wrapping_add(1),
+    };
+    println!(rt; "{maps} maps, {words} words compared, {differences} differences")
 }

@@ -1,7 +1,9 @@
 -- Nodes, segments and rings of a picture (docs/RULES.md, "The lattice"). A segment is the list of its steps.
 use Rattle.std.specs.Prelude.{ℕ, zero, suc, ◌+◌, ◌*◌, Bool, true, false, cond, not, ◌&&◌, ◌||◌, List, [], ◌∷◌, ◌++◌, eqb}
 use Rattle.rules.specs.Lists.{keep, flat}
-use Rattle.rules.specs.Picture.{Picture, Dir, N, E, S, W, back_of, same_dir, Dart, dart, same_dart, ahead_x, ahead_y, turned, crack, node}
+use Rattle.rules.specs.Picture.{Picture, back_of, same_dir, Dart, dart, same_dart, ahead_x, ahead_y, turned, crack, node}
+use Rattle.rules.specs.declared.Dir.{Dir}
+use Rattle.rules.specs.declared.Dir.TheVariants.{N, E, S, W}
 
 -- THE WALK
 

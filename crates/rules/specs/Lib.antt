@@ -6,3 +6,4 @@ pub mod Describes
 pub mod Face
 pub mod Records
 pub mod Calls
+pub mod Refusals

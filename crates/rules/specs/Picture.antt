@@ -1,6 +1,8 @@
 -- A map as extraction sees it, and the cracks between its pixels (docs/RULES.md, "The lattice").
 -- Everything above this file speaks of a `Picture` and never of a list of labels: a new way to look a label up changes `picture` alone.
 use Rattle.std.specs.Prelude.{ℕ, zero, suc, pred, ◌+◌, ◌*◌, Bool, true, false, cond, not, ◌&&◌, List, leb, ltb, eqb, get_or}
+use Rattle.rules.specs.declared.Dir.{Dir}
+use Rattle.rules.specs.declared.Dir.TheVariants.{N, E, S, W}
 
 abbrev pub OUTSIDE : ℕ
 OUTSIDE = 4294967295
@@ -28,9 +30,6 @@ unfoldable pub picture : ℕ → ℕ → ℕ → List ℕ → Picture
 picture w h b ls = record { w = w; h = h; nw = northwest (label w h b ls) }
 
 -- DIRECTIONS, y downwards
-
-pub data Dir : Type 0 where
-  N E S W : Dir
 
 abbrev pub code : Dir → ℕ
 code N = 0

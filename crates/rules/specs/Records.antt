@@ -1,7 +1,8 @@
 -- The words of the six stores, and the seven counts (docs/RULES.md, "Numbers").
 use Rattle.std.specs.Prelude.{ℕ, suc, pred, ◌+◌, ◌/◌, ◌%◌, true, false, cond, ◌&&◌, List, [], ◌∷◌, map, eqb, length, get_or}
 use Rattle.rules.specs.Lists.{flat}
-use Rattle.rules.specs.Picture.{Picture, N, E, S, W, code, Dart, dart, ahead_x, ahead_y, left, right, node}
+use Rattle.rules.specs.Picture.{Picture, code, Dart, dart, ahead_x, ahead_y, left, right, node}
+use Rattle.rules.specs.declared.Dir.TheVariants.{N, E, S, W}
 use Rattle.rules.specs.Graph.{nodes}
 use Rattle.rules.specs.Face.{out_entry, no_dart, Face}
 

@@ -8,14 +8,14 @@ use borrow.Author.Tests.{lt-ltb, le-ltb, le-leb, lt-leb}
 use lib.Dec.{leb}
 use lib.ListN.{length}
 use lib.Ieee.{Float, lt}
-use Rattle.reader.specs.Reading.{Said as Read, said as read_said}
-use Rattle.reader.specs.declared.Corner.{Corner}
-use Rattle.reader.specs.declared.Corner.TheVariants.{At as CornerAt, End as CornerEnd, Outside as CornerOutside}
-use Rattle.sheet.specs.Sheet.{float, unfit, unfit_sheet, Action, travel, cut, end}
-use Rattle.sheet.specs.Moving.{Said, said, say_to, as_move, say_at, first_of, count_of, is_over, onward_from, moved_to, tell_there}
+use Rattle.std.specs.Prelude.{Option, None, Some, Result, Ok, Err}
+use Rattle.rules.specs.declared.Refusal.{Refusal}
+use Rattle.reader.proofs.Numbers.{some_number, one_number}
+use Rattle.sheet.specs.Sheet.{float, unfit, unfit_sheet, travel, cut, end}
+use Rattle.sheet.specs.Moving.{Said, did_move, said, at_end, outside_points, say_at, first_of, count_of, is_over, onward_from, moved_to, tell_there}
 use Rattle.sheet.specs.declared.Sheet.{Sheet}
 use Rattle.sheet.specs.declared.Move.{Move}
-use Rattle.sheet.specs.declared.Move.TheVariants.{Travel, Cut, End, Outside}
+use Rattle.sheet.specs.declared.Move.TheVariants.{Travel, Cut}
 use Rattle.sheet.specs.declared.Mover.{Mover}
 
 -- REFUSAL 16
@@ -35,20 +35,6 @@ wide_refused t b e k = rw (sym e ∙ k)
 pub wide_passed : (t : Sheet) (b c : Bool) → b ≡ unfit t.width → b ≡ false → c ≡ unfit t.height → c ≡ unfit_sheet t
 unfolding unfit_sheet
 wide_passed t b c e k f = rw (sym e ∙ k) f
-
--- ONE SEGMENT: by what the reader said
-module _ (t : Sheet) (w h p : ℕ) (c : Corner) (r : Read) (e : read_said c ≡ r) where
-  abbrev as_moved : Read → Said
-  as_moved s = as_move t w h p s.number s.corner
-
-  pub to_corner : (x y : ℕ) → c ≡ CornerAt x y → say_to t w h p x y ≡ as_moved r
-  to_corner x y z = ap as_moved (sym (ap read_said z) ∙ e)
-
-  pub at_end : c ≡ CornerEnd → said End ≡ as_moved r
-  at_end z = ap as_moved (sym (ap read_said z) ∙ e)
-
-  pub at_outside : c ≡ CornerOutside → said Outside ≡ as_moved r
-  at_outside z = ap as_moved (sym (ap read_said z) ∙ e)
 
 -- A SEGMENT THAT IS OVER
 module _ (segs points : List ℕ) (i p : ℕ) where
@@ -87,10 +73,10 @@ module _ (segs points : List ℕ) (m : Mover) where
   abbrev what : Said
   what = say_at m.sheet m.width m.height points (first_of segs i) (count_of segs i) m.reversed p
 
-  pub all_done : m.count ≤ i → tell_there segs points m ≡ (said End, m)
+  pub all_done : m.count ≤ i → tell_there segs points m ≡ (at_end, m)
   all_done h = simp (le-leb _ _ h)
 
-  pub record_outside : i < m.count → length segs < 8 * i + 8 → tell_there segs points m ≡ (said Outside, m)
+  pub record_outside : i < m.count → length segs < 8 * i + 8 → tell_there segs points m ≡ (outside_points, m)
   record_outside h k = simp (lt-leb _ _ h, lt-ltb _ _ k)
 
   pub moves_on : i < m.count → 8 * i + 8 ≤ length segs → p < count_of segs i → tell_there segs points m ≡ (what, moved_to m (i, p + 1))
@@ -104,41 +90,27 @@ same_told e f = λ i. (e i, f i)
 
 -- ONE ANSWER: what is said tells the case and its values
 
-abbrev kind : Move → ℕ
-kind (Travel x y) = 0
-kind (Cut x y) = 1
-kind End = 2
-kind Outside = 3
+pub one_move : (c d : Move) → did_move c ≡ did_move d → c ≡ d
+one_move (Travel x y) (Travel u v) e = let z : travel x y ∷ [] ≡ travel u v ∷ [] = ap (λ s. s.move) e in let p : x ≡ u = cc in let q : y ≡ v = cc in λ i. Travel (p i) (q i)
+one_move (Cut x y) (Cut u v) e = let z : cut x y ∷ [] ≡ cut u v ∷ [] = ap (λ s. s.move) e in let p : x ≡ u = cc in let q : y ≡ v = cc in λ i. Cut (p i) (q i)
+one_move (Travel x y) (Cut u v) e = absurd (let z : travel x y ∷ [] ≡ cut u v ∷ [] = ap (λ s. s.move) e in cc)
+one_move (Cut x y) (Travel u v) e = absurd (let z : cut x y ∷ [] ≡ travel u v ∷ [] = ap (λ s. s.move) e in cc)
 
-abbrev said_kind : List Action → ℕ
-said_kind [] = 3
-said_kind (travel x y ∷ more) = 0
-said_kind (cut x y ∷ more) = 1
-said_kind (end ∷ more) = 2
+moves_on_or_ends : (m : Move) → did_move m ≡ at_end → ⊥
+moves_on_or_ends (Travel x y) e = let z : travel x y ∷ [] ≡ end ∷ [] = ap (λ s. s.move) e in cc
+moves_on_or_ends (Cut x y) e = let z : cut x y ∷ [] ≡ end ∷ [] = ap (λ s. s.move) e in cc
 
-same_kind : (c d : Move) → said c ≡ said d → kind c ≡ kind d
-same_kind c d e = sym (is c) ∙ ap (λ s. said_kind s.move) e ∙ is d
-  where
-    is : (c : Move) → said_kind (said c).move ≡ kind c
-    is (Travel x y) = refl
-    is (Cut x y) = refl
-    is End = refl
-    is Outside = refl
+no_number : (m : Move) → (did_move m).number ≡ 0
+no_number (Travel x y) = refl
+no_number (Cut x y) = refl
 
-pub one_answer : (c d : Move) → said c ≡ said d → c ≡ d
-one_answer (Travel x y) (Travel u v) e = let z : travel x y ∷ [] ≡ travel u v ∷ [] = ap (λ s. s.move) e in let p : x ≡ u = cc in let q : y ≡ v = cc in λ i. Travel (p i) (q i)
-one_answer (Cut x y) (Cut u v) e = let z : cut x y ∷ [] ≡ cut u v ∷ [] = ap (λ s. s.move) e in let p : x ≡ u = cc in let q : y ≡ v = cc in λ i. Cut (p i) (q i)
-one_answer End End e = refl
-one_answer Outside Outside e = refl
-one_answer (Travel x y) (Cut u v) e = absurd (let z = same_kind (Travel x y) (Cut u v) e in omega arith)
-one_answer (Travel x y) End e = absurd (let z = same_kind (Travel x y) End e in omega arith)
-one_answer (Travel x y) Outside e = absurd (let z = same_kind (Travel x y) Outside e in omega arith)
-one_answer (Cut x y) (Travel u v) e = absurd (let z = same_kind (Cut x y) (Travel u v) e in omega arith)
-one_answer (Cut x y) End e = absurd (let z = same_kind (Cut x y) End e in omega arith)
-one_answer (Cut x y) Outside e = absurd (let z = same_kind (Cut x y) Outside e in omega arith)
-one_answer End (Travel u v) e = absurd (let z = same_kind End (Travel u v) e in omega arith)
-one_answer End (Cut u v) e = absurd (let z = same_kind End (Cut u v) e in omega arith)
-one_answer End Outside e = absurd (let z = same_kind End Outside e in omega arith)
-one_answer Outside (Travel u v) e = absurd (let z = same_kind Outside (Travel u v) e in omega arith)
-one_answer Outside (Cut u v) e = absurd (let z = same_kind Outside (Cut u v) e in omega arith)
-one_answer Outside End e = absurd (let z = same_kind Outside End e in omega arith)
+pub one_answer : (c d : Result (Option Move) Refusal) → said c ≡ said d → c ≡ d
+one_answer (Ok (Some c)) (Ok (Some d)) e = ap (λ m. Ok (Some m)) (one_move c d e)
+one_answer (Ok (Some c)) (Ok None) e = absurd (moves_on_or_ends c e)
+one_answer (Ok None) (Ok (Some d)) e = absurd (moves_on_or_ends d (sym e))
+one_answer (Ok None) (Ok None) e = refl
+one_answer (Err r) (Err s) e = ap (λ t. Err t) (one_number r s (ap (λ t. t.number) e))
+one_answer (Ok (Some c)) (Err s) e = absurd (let z = ap (λ t. t.number) e in let k = some_number s in let n = no_number c in omega arith)
+one_answer (Err r) (Ok (Some d)) e = absurd (let z = ap (λ t. t.number) e in let k = some_number r in let n = no_number d in omega arith)
+one_answer (Ok None) (Err s) e = absurd (let z = ap (λ t. t.number) e in let k = some_number s in omega arith)
+one_answer (Err r) (Ok None) e = absurd (let z = ap (λ t. t.number) e in let k = some_number r in omega arith)

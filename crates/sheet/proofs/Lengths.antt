@@ -11,7 +11,9 @@ use lib.Dec.{T}
 use lib.Ieee.{Float, binary64, lt, le, fits}
 use lib.Ieee.Fits.{and_i, and_l, and_r}
 use Rattle.rules.specs.Lists.{flat}
-use Rattle.rules.specs.Picture.{Picture, picture, Dir, N, E, S, W, Dart, dart, to_x, to_y, ahead_x, ahead_y, crack}
+use Rattle.rules.specs.Picture.{Picture, picture, Dart, dart, to_x, to_y, ahead_x, ahead_y, crack}
+use Rattle.rules.specs.declared.Dir.{Dir}
+use Rattle.rules.specs.declared.Dir.TheVariants.{N, E, S, W}
 use Rattle.rules.specs.Graph.{segments}
 use Rattle.rules.specs.Describes.{Through, Segment}
 use Rattle.rules.specs.Calls.{Map, picture_of}

@@ -28,10 +28,9 @@ use Rattle.rules.proofs.CutList.Lengths.{length_segments}
 use Rattle.reader.specs.Reading.{Said as Read, say_at as read_at, reads}
 use Rattle.reader.proofs.Segments.{corners, read_back, first, count, inside}
 use Rattle.sheet.specs.Sheet.{along, across_of, down_of, Action, travel, cut, end, corners_of, travel_to, cut_to, through, moves}
-use Rattle.sheet.specs.Moving.{Said, did, said, as_move, start_of, makes}
+use Rattle.sheet.specs.Moving.{Said, did, at_end, as_move, start_of, makes}
 use Rattle.sheet.specs.declared.Sheet.{Sheet}
 use Rattle.sheet.specs.declared.Mover.{Mover}
-use Rattle.sheet.specs.declared.Move.TheVariants.{End}
 use Rattle.sheet.proofs.Corners.{spoken, corners_words, corners_back}
 use Rattle.sheet.proofs.Runs.{Lies, all_at, run_all}
 
@@ -178,13 +177,13 @@ module _ {P : Picture} (F : Framed P) {ss : List (List Dart)} (D : Describes P s
 
   -- A RUN makes the moves of every segment in order, each read forward or each backwards, and then says the end at every later call
   pub run_moves : (b : Bool) (calls : ℕ)
-      → makes segs points (length (moves t w h (map (way b) ss)) + calls) (start_of t w h (length ss) b) ≡ map did (moves t w h (map (way b) ss)) ++ replicate calls (said End)
+      → makes segs points (length (moves t w h (map (way b) ss)) + calls) (start_of t w h (length ss) b) ≡ map did (moves t w h (map (way b) ss)) ++ replicate calls at_end
   unfolding moves
   run_moves b calls =
       let made = moves t w h (map (way b) ss) in
       let same : flat (map (all_at segs points (mover b)) (upto (length ss) 0)) ≡ map did made = all_same b in
       let long : length (flat (map (all_at segs points (mover b)) (upto (length ss) 0))) ≡ length made = ap length same ∙ length-map made did in
-      rw (← long) (run_all segs points (mover b) lies calls ∙ ap (λ (l : List Said). l ++ replicate calls (said End)) same)
+      rw (← long) (run_all segs points (mover b) lies calls ∙ ap (λ (l : List Said). l ++ replicate calls at_end) same)
     where
       all_same : (b : Bool) → flat (map (all_at segs points (mover b)) (upto (length ss) 0)) ≡ map did (flat (map (λ s. through t w h (corners_of s)) (map (way b) ss)))
       all_same b =
@@ -286,7 +285,7 @@ module _ (t : Sheet) (m : Map) (segs points : List ℕ) where
       → let made = moves t m.width m.height (map (way b) drawn) in
       makes (store_after 0 (cut_list m).segments segs) (store_after 0 (cut_list m).points points) (length made + calls)
       (start_of t m.width m.height (counted 0 (cut_list m)).segments b)
-      ≡ map did made ++ replicate calls (said End)
+      ≡ map did made ++ replicate calls at_end
   unfolding cut_list cuts store_after
   whole_moves b calls =
       rw counted_segments

@@ -4,17 +4,21 @@ use mathlib.Core.Bool.{Bool, true, false}
 use mathlib.Core.Path.{◌≡◌, refl, sym, ap, ◌∙◌}
 use mathlib.Core.List.{List, [], ◌∷◌, ◌++◌, map, append-nil, append_assoc}
 use native.Mathlib.Omega.{arith}
-use native.Mathlib.Decide.{ℕ_discrete}
-use borrow.Author.Tests.{eq-eqb, ne_eqb}
 use lib.ListN.{get_or}
 use Rattle.rules.specs.Calls.{Map, CutList, cut_list, Check, first_hit, counted, map_checks, graph_checks, face_checks, answer, work_after, store_after, Outcome, call, size, whole}
-use Rattle.calls.specs.declared.Answer.{Answer}
-use Rattle.calls.specs.Outcome.{answer_of, with_number, outcome}
-use Rattle.calls.specs.Counted.{or_else}
-use Rattle.calls.proofs.Checks.{Positive, hit_early, hits_or, map_positive}
+use Rattle.std.specs.Prelude.{Result, Ok, Err}
+use Rattle.std.specs.Result.{result_and}
+use Rattle.rules.specs.declared.Refusal.{Refusal}
+use Rattle.rules.specs.declared.Refusal.TheVariants.{BadSheet}
+use Rattle.rules.specs.Refusals.{number_in}
+use Rattle.calls.specs.declared.Counts.{Counts}
+use Rattle.calls.specs.declared.Refused.{Refused}
+use Rattle.calls.specs.Outcome.{answer_of, answered_by, outcome}
+use Rattle.calls.proofs.Refusals.{positive}
+use Rattle.calls.proofs.Checks.{Positive, hit_early, hits_and, map_positive}
 use Rattle.calls.proofs.Outcomes.{Late, first, refused_store, accepted_answer, accepted_work, number_late, store_kept}
 use Rattle.calls.proofs.Settled.{number_is}
-use Rattle.calls.proofs.Calls.{renumbered}
+use Rattle.calls.proofs.Calls.{answered_number, renumbered}
 use Rattle.sheet.specs.Sheet.{unfit_sheet}
 use Rattle.sheet.specs.Call.{sheet_checks, whole_on_sheet}
 use Rattle.sheet.specs.declared.Sheet.{Sheet}
@@ -30,13 +34,10 @@ last_misses (d ∷ cs) c e = go d.hits (last_misses cs c e)
     go true f = refl
     go false f = f
 
--- with 16 behind it a number is never 0
-never_none : (n : ℕ) → or_else n 16 ≡ 0 → ⊥
-never_none n e =
-    elim (ℕ_discrete n 0) [
-      | yes z ↦ let k : ◌≡◌ {A = ℕ} 16 0 = sym (rw (eq-eqb n 0 z, or_else)) ∙ e in omega arith
-      | no z ↦ z (sym (rw (ne_eqb n 0 z, or_else)) ∙ e)
-    ]
+-- with 16 behind it a check never passes
+never_none : (room : Result (Unit {0}) Refusal) → number_in (result_and room (Err BadSheet)) ≡ 0 → ⊥
+never_none (Ok u) e = omega arith
+never_none (Err why) e = let h = positive why in omega arith
 
 module _ (t : Sheet) (m : Map) (work ns ss ps rs cs fs : List ℕ) where
   abbrev l : CutList
@@ -70,23 +71,23 @@ module _ (t : Sheet) (m : Map) (work ns ss ps rs cs fs : List ℕ) where
   unfolding graph_checks face_checks sheet_checks
   all_late = (omega arith, (omega arith, (omega arith, (omega arith, (omega arith, (omega arith, (omega arith, tt)))))))
 
-  positive : Positive more
+  positive_more : Positive more
   unfolding graph_checks face_checks
-  positive = (omega arith, (omega arith, (omega arith, (omega arith, (omega arith, (omega arith, tt))))))
+  positive_more = (omega arith, (omega arith, (omega arith, (omega arith, (omega arith, (omega arith, tt))))))
 
   sheet_hits : unfit_sheet t ≡ true → first_hit (sheet_checks t) ≡ 16
   unfolding sheet_checks first_hit
   sheet_hits u = rw (u, first_hit)
 
   -- A SHEET THAT IS REFUSED: what `size` left
-  module _ (a : Answer) (work' : List ℕ) (e : outcome a (work' ∷ []) ≡ size m work) where
+  module _ (r : Result Counts Refused) (work' : List ℕ) (e : outcome r (work' ∷ []) ≡ size m work) where
     abbrev sized : ℕ
     sized = first_hit (map_checks m work ++ [])
 
     sized_first : sized ≡ first m work
     sized_first = ap first_hit (append-nil (map_checks m work))
 
-    sized_answer : answer_of a ≡ answer sized l
+    sized_answer : answer_of r ≡ answer sized l
     unfolding size call
     sized_answer = ap (λ o. o.answer) e
 
@@ -94,7 +95,7 @@ module _ (t : Sheet) (m : Map) (work ns ss ps rs cs fs : List ℕ) where
     unfolding size call
     sized_work = ap (λ o. get_or o.stores 0 []) e
 
-    sized_number : a.number ≡ first m work
+    sized_number : (answer_of r).number ≡ first m work
     unfolding size
     sized_number = ap (λ o. o.answer.number) e ∙ number_is m l work [] [] ∙ sized_first
 
@@ -103,7 +104,7 @@ module _ (t : Sheet) (m : Map) (work ns ss ps rs cs fs : List ℕ) where
     sized_counts f = accepted_answer m work [] tt f l
 
     -- 1 to 3
-    pub refused_early : (a.number ≡ 0 → ⊥) → outcome a (work' ∷ ns ∷ ss ∷ ps ∷ rs ∷ cs ∷ fs ∷ []) ≡ whole_on_sheet t m work ns ss ps rs cs fs
+    pub refused_early : ((answer_of r).number ≡ 0 → ⊥) → outcome r (work' ∷ ns ∷ ss ∷ ps ∷ rs ∷ cs ∷ fs ∷ []) ≡ whole_on_sheet t m work ns ss ps rs cs fs
     unfolding whole_on_sheet call
     refused_early n =
         let f : first m work ≡ 0 → ⊥ = λ z. n (sized_number ∙ z) in
@@ -116,20 +117,23 @@ module _ (t : Sheet) (m : Map) (work ns ss ps rs cs fs : List ℕ) where
               kept l.references rs i ∷ kept l.contours cs i ∷ kept l.faces fs i ∷ [];
         }
 
-    -- 4 to 9, and then 16
-    pub refused_late : unfit_sheet t ≡ true → a.number ≡ 0 → (lacks n : ℕ) → (answer_of a ≡ counted 0 l → lacks ≡ first_hit more) → n ≡ or_else lacks 16
-        → outcome (with_number n a) (work' ∷ ns ∷ ss ∷ ps ∷ rs ∷ cs ∷ fs ∷ []) ≡ whole_on_sheet t m work ns ss ps rs cs fs
+  -- 4 to 9, and then 16
+  module _ (c : Counts) (work' : List ℕ) (e : outcome (Ok c) (work' ∷ []) ≡ size m work) where
+    pub refused_late : unfit_sheet t ≡ true → (room : Result (Unit {0}) Refusal) → (answer_of (Ok c) ≡ counted 0 l → number_in room ≡ first_hit more)
+        → outcome (answered_by (result_and room (Err BadSheet)) c) (work' ∷ ns ∷ ss ∷ ps ∷ rs ∷ cs ∷ fs ∷ []) ≡ whole_on_sheet t m work ns ss ps rs cs fs
     unfolding whole_on_sheet call
-    refused_late u z lacks n k o =
-        let f : first m work ≡ 0 = sym sized_number ∙ z in
-        let counts : answer_of a ≡ counted 0 l = sized_answer ∙ sized_counts f in
-        let hit : n ≡ first_hit all = o ∙ (λ i. or_else (k counts i) (sym (sheet_hits u) i)) ∙ hits_or more (sheet_checks t) positive in
+    refused_late u room k =
+        let q : Result (Unit {0}) Refusal = result_and room (Err BadSheet) in
+        let n : ℕ = number_in q in
+        let f : first m work ≡ 0 = sym (sized_number (Ok c) work' e) in
+        let counts : answer_of (Ok c) ≡ counted 0 l = sized_answer (Ok c) work' e ∙ sized_counts (Ok c) work' e f in
+        let hit : n ≡ first_hit all = hits_and more (sheet_checks t) positive_more room (Err BadSheet) (k counts) (sym (sheet_hits u)) in
         let is : number ≡ n = number_late m work all all_late f ∙ sym hit in
-        let some : number ≡ 0 → ⊥ = λ q. never_none lacks (sym o ∙ sym is ∙ q) in
+        let some : number ≡ 0 → ⊥ = λ z. never_none room (sym is ∙ z) in
         let kept : (words store : List ℕ) → store ≡ store_after number words store = λ words store. store_kept number words store some in
         λ i. record {
-          answer = (renumbered n a l counts ∙ ap (λ (n : ℕ). counted n l) hit ∙ sym (accepted_answer m work all all_late f l)) i;
+          answer = (answered_number q c ∙ renumbered n c l counts ∙ ap (λ (n : ℕ). counted n l) hit ∙ sym (accepted_answer m work all all_late f l)) i;
           stores =
-              (sized_work ∙ accepted_work m work [] tt f ∙ sym (accepted_work m work all all_late f)) i ∷ kept l.nodes ns i ∷ kept l.segments ss i ∷
+              (sized_work (Ok c) work' e ∙ accepted_work m work [] tt f ∙ sym (accepted_work m work all all_late f)) i ∷ kept l.nodes ns i ∷ kept l.segments ss i ∷
               kept l.points ps i ∷ kept l.references rs i ∷ kept l.contours cs i ∷ kept l.faces fs i ∷ [];
         }

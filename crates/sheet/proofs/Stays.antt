@@ -22,18 +22,19 @@ use Rattle.rules.specs.Calls.{Map, CutList, picture_of, cut_list, Check, first_h
 use Rattle.rules.proofs.Ground.Lists.{in_flat, flat_map_in}
 use Rattle.rules.proofs.Lattice.Frame.{Framed, picture_framed}
 use Rattle.rules.proofs.Tracing.Partition.{describes}
-use Rattle.calls.specs.declared.Answer.{Answer}
+use Rattle.std.specs.Prelude.{Result, Ok, Err, IfOk}
+use Rattle.calls.specs.declared.Counts.{Counts}
+use Rattle.calls.specs.declared.Refused.{Refused}
 use Rattle.calls.specs.Outcome.{outcome}
 use Rattle.calls.proofs.Checks.{Positive, both_miss, map_positive}
 use Rattle.calls.proofs.Outcomes.{Passed, passed}
 use Rattle.calls.proofs.Settled.{number_is}
 use Rattle.sheet.specs.Sheet.{sheet_with, unfit, unfit_sheet, across_of, down_of, Action, corners_of, cut_to, through, moves}
 use Rattle.sheet.specs.Within.{doubles, within, on_sheet, Stays, NoMoveLeaves}
-use Rattle.sheet.specs.Moving.{Said, did, said, start_of, tell_of, makes}
+use Rattle.sheet.specs.Moving.{Said, did, at_end, start_of, tell_of, makes}
 use Rattle.sheet.specs.Call.{sheet_checks, whole_on_sheet}
 use Rattle.sheet.specs.declared.Sheet.{Sheet}
 use Rattle.sheet.specs.declared.Mover.{Mover}
-use Rattle.sheet.specs.declared.Move.TheVariants.{End}
 use Rattle.sheet.proofs.Moves.{way, way_cracked, corner_on_map, whole_moves}
 use Rattle.sheet.proofs.Within.{along_within}
 
@@ -101,7 +102,7 @@ did_stays t [] k s i = absurd (not-nil i)
 did_stays t (a ∷ l) k s (here z) = subst (λ (r : Said). Stays t r) (sym z) (refl, and_i (on_sheet t a) true (k a (here refl)) tt)
 did_stays t (a ∷ l) k s (there i) = did_stays t l (λ a i. k a (there i)) s i
 
-end_stays : (t : Sheet) (calls : ℕ) (s : Said) → In s (replicate calls (said End)) → Stays t s
+end_stays : (t : Sheet) (calls : ℕ) (s : Said) → In s (replicate calls at_end) → Stays t s
 end_stays t zero s i = absurd (not-nil i)
 end_stays t (suc calls) s (here z) = subst (λ (r : Said). Stays t r) (sym z) (refl, tt)
 end_stays t (suc calls) s (there i) = end_stays t calls s i
@@ -196,18 +197,17 @@ module _ (t : Sheet) (d : T (doubles t)) (m : Map) (work ns ss ps rs cs fs : Lis
         let q = subst (λ (n : ℕ). In s (makes (store_after 0 l.segments ss) (store_after 0 l.points ps) n mover)) (add_comm calls (length made)) k in
         by (in-cases (map did made) (subst (λ (r : List Said). In s r) (whole_moves t m ss ps b calls) q))
       where
-        by : In s (map did (moves t m.width m.height (map (way b) drawn))) ⊎ In s (replicate calls (said End)) → Stays t s
+        by : In s (map did (moves t m.width m.height (map (way b) drawn))) ⊎ In s (replicate calls at_end) → Stays t s
         by (inl i) = did_stays t (moves t m.width m.height (map (way b) drawn)) (list_on_sheet b) s i
         by (inr i) = end_stays t calls s i
 
 -- AS THE CALL SAYS IT: by its answer, and the stores that it leaves
 pub with_moves : (t : Sheet) → fits binary64 t.width ≡ true → fits binary64 t.height ≡ true
-    → (m : Map) (work ns ss ps rs cs fs : List ℕ) (a : Answer) (work' ns' ss' ps' : List ℕ) (more : List (List ℕ))
-    → outcome a (work' ∷ ns' ∷ ss' ∷ ps' ∷ more) ≡ whole_on_sheet t m work ns ss ps rs cs fs
-    → (outcome a (work' ∷ ns' ∷ ss' ∷ ps' ∷ more) ≡ whole_on_sheet t m work ns ss ps rs cs fs) × (a.number ≡ 0 → NoMoveLeaves t m.width m.height a.segments ss' ps')
-with_moves t p q m work ns ss ps rs cs fs a work' ns' ss' ps' more e =
-    let d : T (doubles t) = and_i (fits binary64 t.width) (fits binary64 t.height) (subst T (sym p) tt) (subst T (sym q) tt) in (
-      e,
-      λ z. subst (λ (o : Outcome). NoMoveLeaves t m.width m.height o.answer.segments (get_or o.stores 2 []) (get_or o.stores 3 [])) (sym e)
-          (no_move_leaves t d m work ns ss ps rs cs fs (sym (ap (λ (o : Outcome). o.answer.number) e) ∙ z)),
-    )
+    → (m : Map) (work ns ss ps rs cs fs : List ℕ) (r : Result Counts Refused) (work' ns' ss' ps' : List ℕ) (more : List (List ℕ))
+    → outcome r (work' ∷ ns' ∷ ss' ∷ ps' ∷ more) ≡ whole_on_sheet t m work ns ss ps rs cs fs
+    → IfOk r (λ c. NoMoveLeaves t m.width m.height c.segments ss' ps')
+with_moves t p q m work ns ss ps rs cs fs (Ok c) work' ns' ss' ps' more e =
+    let d : T (doubles t) = and_i (fits binary64 t.width) (fits binary64 t.height) (subst T (sym p) tt) (subst T (sym q) tt) in
+    subst (λ (o : Outcome). NoMoveLeaves t m.width m.height o.answer.segments (get_or o.stores 2 []) (get_or o.stores 3 [])) (sym e)
+    (no_move_leaves t d m work ns ss ps rs cs fs (sym (ap (λ (o : Outcome). o.answer.number) e)))
+with_moves t p q m work ns ss ps rs cs fs (Err x) work' ns' ss' ps' more e = tt

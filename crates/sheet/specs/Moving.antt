@@ -1,10 +1,13 @@
 -- What the mover says at each call, and a run of its calls (docs/RULES.md, #112).
-use Rattle.std.specs.Prelude.{ℕ, zero, suc, ◌+◌, ◌*◌, ◌-◌, ◌/◌, Bool, true, false, cond, List, [], ◌∷◌, leb, ltb, eqb, length, get_or}
+use Rattle.std.specs.Prelude.{ℕ, zero, suc, ◌+◌, ◌*◌, ◌-◌, ◌/◌, Bool, true, false, cond, Option, None, Some, Result, Ok, Err, List, [], ◌∷◌, leb, ltb, eqb, length, get_or}
+use Rattle.rules.specs.declared.Refusal.{Refusal}
+use Rattle.rules.specs.declared.Refusal.TheVariants.{OutsidePoints}
+use Rattle.rules.specs.Refusals.{number_of}
 use Rattle.reader.specs.Reading.{say_at as read_at}
 use Rattle.sheet.specs.Sheet.{Action, travel, cut, end, travel_to, cut_to}
 use Rattle.sheet.specs.declared.Sheet.{Sheet}
 use Rattle.sheet.specs.declared.Move.{Move}
-use Rattle.sheet.specs.declared.Move.TheVariants.{Travel, Cut, End, Outside}
+use Rattle.sheet.specs.declared.Move.TheVariants.{Travel, Cut}
 use Rattle.sheet.specs.declared.Place.{Place}
 use Rattle.sheet.specs.declared.Mover.{Mover}
 use Rattle.sheet.specs.declared.Step.{Step}
@@ -18,11 +21,20 @@ pub record Said : Type 0 where
 abbrev pub did : Action → Said
 did a = record { number = 0; move = a ∷ [] }
 
-abbrev pub said : Move → Said
-said (Travel x y) = did (travel x y)
-said (Cut x y) = did (cut x y)
-said End = did end
-said Outside = record { number = 10; move = [] }
+abbrev pub did_move : Move → Said
+did_move (Travel x y) = did (travel x y)
+did_move (Cut x y) = did (cut x y)
+
+abbrev pub said : Result (Option Move) Refusal → Said
+said (Ok (Some m)) = did_move m
+said (Ok None) = did end
+said (Err r) = record { number = number_of r; move = [] }
+
+abbrev pub at_end : Said
+at_end = said (Ok None)
+
+abbrev pub outside_points : Said
+outside_points = said (Err OutsidePoints)
 
 -- ONE SEGMENT
 
@@ -32,8 +44,8 @@ say_to t w h place x y = did (cond (eqb place 0) (travel_to t w h (x, y)) (cut_t
 
 -- what the segment reader says, a number and a corner or none, as a move
 abbrev pub as_move : Sheet → ℕ → ℕ → ℕ → ℕ → List ℕ → Said
-as_move t w h place number [] = cond (eqb number 0) (said End) (said Outside)
-as_move t w h place number (x ∷ []) = said Outside
+as_move t w h place number [] = cond (eqb number 0) at_end outside_points
+as_move t w h place number (x ∷ []) = outside_points
 as_move t w h place number (x ∷ y ∷ more) = say_to t w h place x y
 
 -- at a place of a segment's part: 10 as the reader does, at its end the end, else the move to its corner
@@ -88,9 +100,9 @@ tell_there segs points m =
     let i = m.at.segment in
     let p = m.at.place in
     cond (leb m.count i)
-    (said End, m)
+    (at_end, m)
     (cond (ltb (length segs) (8 * i + 8))
-    (said Outside, m)
+    (outside_points, m)
     (say_at m.sheet m.width m.height points (first_of segs i) (count_of segs i) m.reversed p, moved_to m (i, cond (ltb p (count_of segs i)) (p + 1) p)))
 
 abbrev pub tell_of : List ℕ → List ℕ → Mover → Said × Mover

@@ -1,16 +1,17 @@
 // Millimetres on a sheet: where a corner lies, and the machine moves of a cut list, one at a time.
 #![tactic(auto)]
 
-ghost use Rattle.std.specs.Prelude.{◌≡◌, [], ◌∷◌, ◌-◌, ◌≤◌, false, T};
+ghost use Rattle.std.specs.Prelude.{◌≡◌, [], ◌∷◌, ◌-◌, ◌≤◌, false, T, IfOk};
 ghost use Rattle.calls.specs.Outcome.{map_of, outcome};
 ghost use Rattle.sheet.specs.Sheet.{unfit, unfit_sheet, along as along_of, across_of, down_of};
 ghost use Rattle.sheet.specs.Within.{within, NoMoveLeaves};
 ghost use Rattle.sheet.specs.Call.{whole_on_sheet};
-ghost use Rattle.sheet.specs.Moving.{said, told, say_to, say_at, is_over, place_of, onward_from, start_of, moved_to, tell_there, tell_of};
+ghost use Rattle.sheet.specs.Moving.{did_move, said, told, say_to, say_at, is_over, place_of, onward_from, start_of, moved_to, tell_there, tell_of};
 
-use calls::Answer;
+use calls::{Counts, Refused};
 use lattice::Size;
 use reader::Corner;
+use rules::Refusal;
 
 // The two sides in millimetres.
 #[derive(Clone, Copy)]
@@ -23,10 +24,7 @@ pub struct Sheet {
 fn bad_side(side: f64) -> bool
     ensures { result ≡ unfit side }
 {
-    if 0.0 < side {
-        return 3000.0 < side;
-    }
-    true
+    !(0.0 < side) || 3000.0 < side
 }
 
 // The far end of a side is the side itself; any other place is multiplied and then divided.
@@ -41,14 +39,11 @@ fn along(n: u32, count: u32, side: f64) -> f64
 }
 
 impl Sheet {
-    // Number 16: one of the sides is not allowed.
+    // One of the sides is not allowed.
     pub fn refused(self) -> bool
         ensures { result ≡ unfit_sheet self }
     {
-        if bad_side(self.width) {
-            return true;
-        }
-        bad_side(self.height)
+        bad_side(self.width) || bad_side(self.height)
     }
 
     // The x of a corner, on a map of this width.
@@ -68,33 +63,27 @@ impl Sheet {
     }
 }
 
-#[derive(Clone, Copy)]
+#[derive(Clone, Copy, Debug, PartialEq)]
 pub enum Move {
     Travel { x: f64, y: f64 },
     Cut { x: f64, y: f64 },
-    End,
-    // Number 10: the segment's part does not lie inside the point store.
-    Outside,
 }
 
 // ONE SEGMENT
 
 // To a corner: at the place 0 a travel, at any other a cut.
-fn move_to(sheet: Sheet, width: u32, height: u32, place: u32, x: u32, y: u32) -> Move
-    ensures { said result ≡ say_to sheet width height place x y }
+fn move_to(sheet: Sheet, width: u32, height: u32, place: u32, corner: Corner) -> Move
+    ensures { did_move result ≡ say_to sheet width height place corner.x corner.y }
 {
+    let x = sheet.across(width, corner.x);
+    let y = sheet.down(height, corner.y);
     if place == 0 {
-        return Move::Travel {
-            x: sheet.across(width, x),
-            y: sheet.down(height, y),
-        };
+        return Move::Travel { x, y };
     }
-    Move::Cut {
-        x: sheet.across(width, x),
-        y: sheet.down(height, y),
-    }
+    Move::Cut { x, y }
 }
 
+// Kept, point 5: a public call with plain values, named in docs/PROMISES.md; `Mover` keeps sheet and sides together.
 // The move after `place` others of the part that starts at the point `first` and has `count` points, forward or reversed.
 pub fn move_at(
     sheet: Sheet,
@@ -105,15 +94,11 @@ pub fn move_at(
     count: u32,
     reversed: bool,
     place: u32,
-) -> Move
+) -> Result<Option<Move>, Refusal>
     ensures { said result ≡ say_at sheet width height points.now first count reversed place }
 {
-    let corner = reader::corner_at(points, first, count, reversed, place);
-    match corner {
-        Corner::At { x, y } => move_to(sheet, width, height, place, x, y),
-        Corner::End => Move::End,
-        Corner::Outside => Move::Outside,
-    }
+    let corner = reader::corner_at(points, first, count, reversed, place)?;
+    Ok(corner.map(|corner| move_to(sheet, width, height, place, corner)))
 }
 
 // ALL SEGMENTS
@@ -125,11 +110,12 @@ pub struct Place {
     pub place: u32,
 }
 
+// Kept, point 5: two lent stores, as `Mover::step` is lent them, which docs/PROMISES.md names; a struct would be made of them there and read here.
 // The segment's record and its part lie inside the stores, and its last corner is before the place.
-fn over(segments: &[u32], points: &[u32], segment: u32, place: u32) -> bool
-    ensures { result ≡ is_over segments.now points.now segment place }
+fn over(segments: &[u32], points: &[u32], at: Place) -> bool
+    ensures { result ≡ is_over segments.now points.now at.segment at.place }
 {
-    let i = segment as usize;
+    let i = at.segment as usize;
     if segments.len() < 8 * i + 8 {
         return false;
     }
@@ -138,30 +124,22 @@ fn over(segments: &[u32], points: &[u32], segment: u32, place: u32) -> bool
     if points.len() / 2 < first as usize + count as usize {
         return false;
     }
-    count <= place
+    count <= at.place
 }
 
 // Past the segments that are over.
-fn onward(segments: &[u32], points: &[u32], count: u32, segment: u32, place: u32) -> Place
-    ensures { place_of result ≡ onward_from segments.now points.now (count - segment) segment place }
+fn onward(segments: &[u32], points: &[u32], count: u32, from: Place) -> Place
+    ensures { place_of result ≡ onward_from segments.now points.now (count - from.segment) from.segment from.place }
 {
-    let mut i = segment;
-    let mut p = place;
-    while i < count {
-        if over(segments, points, i, p) {
-            i += 1;
-            p = 0;
-        } else {
-            return Place {
-                segment: i,
-                place: p,
-            };
-        }
+    let mut at = from;
+    // Kept, point 3: the place moves on, not an index alone: past the first segment it is 0.
+    while at.segment < count && over(segments, points, at) {
+        at = Place {
+            segment: at.segment + 1,
+            place: 0,
+        };
     }
-    Place {
-        segment: i,
-        place: p,
-    }
+    at
 }
 
 // A sheet, the sides of its map, how many segments there are, whether each is read backwards, and the place of the next move.
@@ -178,7 +156,7 @@ pub struct Mover {
 // What a call makes, and the mover for the next call.
 #[derive(Clone, Copy)]
 pub struct Step {
-    pub made: Move,
+    pub made: Result<Option<Move>, Refusal>,
     pub mover: Mover,
 }
 
@@ -186,17 +164,16 @@ impl Mover {
     pub fn new(sheet: Sheet, width: u32, height: u32, count: u32, reversed: bool) -> Mover
         ensures { result ≡ start_of sheet width height count reversed }
     {
-        let at = Place {
-            segment: 0,
-            place: 0,
-        };
         Mover {
             sheet,
             width,
             height,
             count,
             reversed,
-            at,
+            at: Place {
+                segment: 0,
+                place: 0,
+            },
         }
     }
 
@@ -204,15 +181,7 @@ impl Mover {
     fn moved(self, at: Place) -> Mover
         ensures { result ≡ moved_to self (place_of at) }
     {
-        let sheet = self.sheet;
-        Mover {
-            sheet,
-            width: self.width,
-            height: self.height,
-            count: self.count,
-            reversed: self.reversed,
-            at,
-        }
+        Mover { at, ..self }
     }
 
     // The move at the mover's own place, in a segment that is not over.
@@ -223,21 +192,20 @@ impl Mover {
         let i = at.segment as usize;
         if self.count <= at.segment {
             return Step {
-                made: Move::End,
+                made: Ok(None),
                 mover: self,
             };
         }
         if segments.len() < 8 * i + 8 {
             return Step {
-                made: Move::Outside,
+                made: Err(Refusal::OutsidePoints),
                 mover: self,
             };
         }
         let first = store::at(segments, 8 * i);
         let count = store::at(segments, 8 * i + 1);
-        let sheet = self.sheet;
         let made = move_at(
-            sheet,
+            self.sheet,
             self.width,
             self.height,
             points,
@@ -246,32 +214,31 @@ impl Mover {
             self.reversed,
             at.place,
         );
-        if at.place < count {
-            let next = Place {
-                segment: at.segment,
-                place: at.place + 1,
-            };
-            return Step {
-                made,
-                mover: self.moved(next),
-            };
+        if count <= at.place {
+            return Step { made, mover: self };
         }
-        Step { made, mover: self }
+        let next = Place {
+            place: at.place + 1,
+            ..at
+        };
+        Step {
+            made,
+            mover: self.moved(next),
+        }
     }
 
     // The next move, and the mover after it.
     pub fn step(self, segments: &[u32], points: &[u32]) -> Step
         ensures { told result ≡ tell_of segments.now points.now self }
     {
-        let at = self.at;
-        let next = onward(segments, points, self.count, at.segment, at.place);
+        let next = onward(segments, points, self.count, self.at);
         self.moved(next).here(segments, points)
     }
 }
 
 // THE CALL
 
-// The whole cut list of a map that is to be cut from a sheet: 1 to 9 as `calls::whole`, then 16.
+// The whole cut list of a map that is to be cut from a sheet: refused as `calls::whole`, and then where the sheet is not allowed.
 pub fn whole_on_sheet(
     sheet: Sheet,
     s: Size,
@@ -283,17 +250,14 @@ pub fn whole_on_sheet(
     references: &mut [u32],
     contours: &mut [u32],
     faces: &mut [u32],
-) -> Answer
+) -> Result<Counts, Refused>
     ensures faces_after { outcome result (work.new ∷ nodes.new ∷ segments.new ∷ points.new ∷ references.new ∷ contours.new ∷ faces.new ∷ []) ≡ whole_on_sheet sheet (map_of s labels.now) work.old nodes.old segments.old points.old references.old contours.old faces.old }
-    ensures on_sheet { result.number ≡ 0 → NoMoveLeaves sheet s.width s.height result.segments segments.new points.new }
+    ensures on_sheet { IfOk result (λ counts. NoMoveLeaves sheet s.width s.height counts.segments segments.new points.new) }
 {
     if sheet.refused() {
-        let mut a = calls::size(s, labels, work);
-        if a.number != 0 {
-            return a;
-        }
-        let lacks = calls::check_all(
-            a,
+        let counts = calls::size(s, labels, work)?;
+        let room = calls::check_all(
+            counts,
             nodes.len(),
             segments.len(),
             points.len(),
@@ -301,8 +265,7 @@ pub fn whole_on_sheet(
             contours.len(),
             faces.len(),
         );
-        a.number = calls::or_else(lacks, 16);
-        return a;
+        return counts.answer(room.and(Err(Refusal::BadSheet)));
     }
     calls::whole(
         s, labels, work, nodes, segments, points, references, contours, faces,

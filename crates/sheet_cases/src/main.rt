@@ -1,34 +1,38 @@
 // Cuts small maps from sheets and prints the answers and the moves, a number of millimetres by its bits; then moves over odd stores.
 #![tactic(auto)]
 
-use lattice::Size;
+use lattice::{OUTSIDE, Size};
+use rules::Refusal;
 use sheet::{Move, Mover, Sheet};
-use std::io;
+use std::{fmt, io};
 
-fn bits(rt: &impl Print, x: f64) -> io::Result<()> {
-    if x.is_nan() {
-        print!(rt; " no number")
-    } else {
-        print!(rt; " {:016x}", x.to_bits())
+// A number of millimetres.
+#[derive(Drop)]
+struct Bits(f64);
+
+impl fmt::Display for Bits {
+    fn fmt<W: fmt::Write>(&self, f: &mut fmt::Formatter<W>) -> fmt::Result {
+        if self.0.is_nan() {
+            write!(f, "no number")
+        } else {
+            write!(f, "{:016x}", self.0.to_bits())
+        }
     }
 }
 
-fn say(rt: &impl Print, made: Move) -> io::Result<()> {
-    match made {
-        Move::Travel { x, y } => {
-            print!(rt; "travel")?;
-            bits(rt, x)?;
-            bits(rt, y)?;
+// What a call said.
+#[derive(Drop)]
+struct Said(Result<Option<Move>, Refusal>);
+
+impl fmt::Display for Said {
+    fn fmt<W: fmt::Write>(&self, f: &mut fmt::Formatter<W>) -> fmt::Result {
+        match self.0 {
+            Ok(Some(Move::Travel { x, y })) => write!(f, "travel {} {}", Bits(x), Bits(y)),
+            Ok(Some(Move::Cut { x, y })) => write!(f, "cut    {} {}", Bits(x), Bits(y)),
+            Ok(None) => write!(f, "end"),
+            Err(why) => write!(f, "{}", why.number()),
         }
-        Move::Cut { x, y } => {
-            print!(rt; "cut   ")?;
-            bits(rt, x)?;
-            bits(rt, y)?;
-        }
-        Move::End => print!(rt; "end")?,
-        Move::Outside => print!(rt; "10")?,
     }
-    println!(rt)
 }
 
 // What so many calls of a mover say.
@@ -42,182 +46,142 @@ fn moves(
     let mut mover = start;
     for _ in 0..calls {
         let step = mover.step(segments, points);
-        say(rt, step.made)?;
+        println!(rt; "{}", Said(step.made))?;
         mover = step.mover;
     }
     Ok(())
 }
 
-// The same over the stores of a cut list.
-fn moves_of(
-    rt: &impl Print,
-    start: Mover,
-    calls: u32,
-    segments: &[u32; 64],
-    points: &[u32; 64],
-) -> io::Result<()> {
-    moves(rt, start, calls, segments, points)
-}
-
-fn number(rt: &impl Print, n: u32) -> io::Result<()> {
-    print!(rt; " {n}")
-}
-
-// The answer on a map with this store lent for its faces, and the moves where it is 0.
-fn cut(
-    rt: &impl Print,
-    name: &[u8],
+// A map to be cut from a sheet.
+#[derive(Clone, Copy)]
+struct Panel<'a> {
     sheet: Sheet,
-    width: u32,
-    height: u32,
-    labels: &[u32],
-    faces: &mut [u32],
+    size: Size,
+    labels: &'a [u32],
     reversed: bool,
-) -> io::Result<()> {
-    let mut work = [0u32; 128];
-    let mut nodes = [0u32; 24];
-    let mut segments = [0u32; 64];
-    let mut points = [0u32; 64];
-    let mut references = [0u32; 16];
-    let mut contours = [0u32; 16];
-    let s = Size {
+}
+
+impl Panel<'_> {
+    fn cut(self, rt: &impl Print, name: &str) -> io::Result<()> {
+        self.cut_into(rt, name, &mut [0; 16])
+    }
+
+    // The answer with this store lent for the faces, and the moves where it is not refused.
+    fn cut_into(self, rt: &impl Print, name: &str, faces: &mut [u32]) -> io::Result<()> {
+        let mut segments = [0; 64];
+        let mut points = [0; 64];
+        let answer = sheet::whole_on_sheet(
+            self.sheet,
+            self.size,
+            self.labels,
+            &mut [0; 128],
+            &mut [0; 24],
+            &mut segments,
+            &mut points,
+            &mut [0; 16],
+            &mut [0; 16],
+            faces,
+        );
+        let [number, _, count, _, _, _, _, steps] = calls::words(answer);
+        println!(rt; "{name}: {number} {count} {steps}")?;
+        if answer.is_err() {
+            return Ok(());
+        }
+        let Size { width, height, .. } = self.size;
+        let mover = Mover::new(self.sheet, width, height, count, self.reversed);
+        // A travel for each segment, a cut for each step, and the end twice.
+        let calls = count.saturating_add(steps).saturating_add(2);
+        moves(rt, mover, calls, &segments, &points)
+    }
+}
+
+fn plain(width: u32, height: u32) -> Size {
+    Size {
         width,
         height,
         paints: 2,
-        bound: lattice::OUTSIDE,
-    };
-    let a = sheet::whole_on_sheet(
-        sheet,
-        s,
-        labels,
-        &mut work,
-        &mut nodes,
-        &mut segments,
-        &mut points,
-        &mut references,
-        &mut contours,
-        faces,
-    );
-    rt.write_all(name)?;
-    number(rt, a.number)?;
-    number(rt, a.segments)?;
-    number(rt, a.steps)?;
-    println!(rt)?;
-    if a.number == 0 {
-        let start = Mover::new(sheet, width, height, a.segments, reversed);
-        let calls = if a.segments < 9 {
-            if a.steps < 99 {
-                a.segments + a.steps + 2
-            } else {
-                0
-            }
-        } else {
-            0
-        };
-        moves_of(rt, start, calls, &segments, &points)?;
+        bound: OUTSIDE,
     }
-    Ok(())
 }
 
 // ALLOWED SHEETS
 
 fn allowed(rt: &impl Print) -> io::Result<()> {
-    let mut faces = [0u32; 16];
-    // no binary fraction: each coordinate is rounded
-    let tenth = Sheet {
-        width: 0.1,
-        height: 1000.1,
+    let tenth = Panel {
+        // no binary fraction: each coordinate is rounded
+        sheet: Sheet {
+            width: 0.1,
+            height: 1000.1,
+        },
+        size: plain(3, 1),
+        labels: &[0, 0, 1],
+        reversed: false,
     };
-    let pair = [0, 0, 1];
-    cut(
-        rt,
-        b"3 by 1 on 0.1 by 1000.1:",
-        tenth,
-        3,
-        1,
-        &pair,
-        &mut faces,
-        false,
-    )?;
-    cut(
-        rt,
-        b"the same, reversed:",
-        tenth,
-        3,
-        1,
-        &pair,
-        &mut faces,
-        true,
-    )?;
-    // computed as the others are, the far end would be off the sheet
-    let far = Sheet {
-        width: 2999.9999999999973,
-        height: 3000.0,
+    let reversed = Panel {
+        reversed: true,
+        ..tenth
     };
-    let last = [4294967295, 4294967295, 0];
-    cut(
-        rt,
-        b"3 by 1 on 2999.9999999999973 by 3000:",
-        far,
-        3,
-        1,
-        &last,
-        &mut faces,
-        false,
-    )?;
-    cut(rt, b"0 by 0:", far, 0, 0, &[], &mut faces, false)
+    let far = Panel {
+        // computed as the others are, the far end would be off the sheet
+        sheet: Sheet {
+            width: 2999.9999999999973,
+            height: 3000.0,
+        },
+        labels: &[OUTSIDE, OUTSIDE, 0],
+        ..tenth
+    };
+    let empty = Panel {
+        size: plain(0, 0),
+        labels: &[],
+        ..far
+    };
+    tenth.cut(rt, "3 by 1 on 0.1 by 1000.1")?;
+    reversed.cut(rt, "the same, reversed")?;
+    far.cut(rt, "3 by 1 on 2999.9999999999973 by 3000")?;
+    empty.cut(rt, "0 by 0")
 }
 
 // NUMBERS
 
-fn asked(rt: &impl Print, name: &[u8], width: f64, height: f64) -> io::Result<()> {
-    let mut faces = [0u32; 16];
-    let sheet = Sheet { width, height };
-    cut(rt, name, sheet, 1, 1, &[0], &mut faces, false)
+// One pixel on a sheet.
+fn pixel(width: f64, height: f64) -> Panel<'static> {
+    Panel {
+        sheet: Sheet { width, height },
+        size: plain(1, 1),
+        labels: &[0],
+        reversed: false,
+    }
 }
 
 fn refusals(rt: &impl Print) -> io::Result<()> {
-    let zero = 0.0;
-    asked(rt, b"a side of 0:", zero, 1.0)?;
-    asked(rt, b"a side of -0:", 1.0, -zero)?;
-    asked(rt, b"a side below 0:", -1.0, 1.0)?;
-    asked(rt, b"a side just above 3000:", 1.0, 3000.0000000000005)?;
-    asked(rt, b"no end:", 1.0 / zero, 1.0)?;
-    asked(rt, b"no number:", zero / zero, 1.0)?;
-    asked(rt, b"no number below:", 1.0, zero / zero)?;
-    asked(rt, b"the smallest side:", 5e-324, 3000.0)?;
-    let none = Sheet {
-        width: zero,
-        height: zero,
+    pixel(0.0, 1.0).cut(rt, "a side of 0")?;
+    pixel(1.0, -0.0).cut(rt, "a side of -0")?;
+    pixel(-1.0, 1.0).cut(rt, "a side below 0")?;
+    pixel(1.0, 3000.0000000000005).cut(rt, "a side just above 3000")?;
+    pixel(f64::INFINITY, 1.0).cut(rt, "no end")?;
+    pixel(f64::NAN, 1.0).cut(rt, "no number")?;
+    pixel(1.0, f64::NAN).cut(rt, "no number below")?;
+    pixel(5e-324, 3000.0).cut(rt, "the smallest side")?;
+    let none = pixel(0.0, 0.0);
+    let unlabelled = Panel {
+        labels: &[],
+        ..none
     };
-    let mut empty = [0u32; 0];
-    cut(
-        rt,
-        b"9 is asked before 16:",
-        none,
-        1,
-        1,
-        &[0],
-        &mut empty,
-        false,
-    )?;
-    cut(
-        rt,
-        b"2 is asked before 16:",
-        none,
-        1,
-        1,
-        &[],
-        &mut empty,
-        false,
-    )
+    none.cut_into(rt, "9 is asked before 16", &mut [])?;
+    unlabelled.cut_into(rt, "2 is asked before 16", &mut [])
 }
 
 // ODD STORES
 
+// The record of a segment whose points start at `first`.
+fn record(first: u32, count: u32) -> [u32; 8] {
+    [first, count, 0, 0, 0, 0, 0, 0]
+}
+
+// Four calls of a mover over so many segments.
 fn odd(
     rt: &impl Print,
-    name: &[u8],
+    name: &str,
     count: u32,
     segments: &[u32],
     points: &[u32],
@@ -226,8 +190,7 @@ fn odd(
         width: 1.0,
         height: 1.0,
     };
-    rt.write_all(name)?;
-    println!(rt)?;
+    println!(rt; "{name}")?;
     moves(
         rt,
         Mover::new(sheet, 2, 4, count, false),
@@ -239,40 +202,32 @@ fn odd(
 
 fn stores(rt: &impl Print) -> io::Result<()> {
     let p = [1, 3, 2, 3];
+    let none_and_one = [record(0, 0), record(1, 1)];
+    let one_and_two = [record(0, 1), record(1, 2)];
+    let one_and_one = [record(0, 1), record(1, 1)];
+    let short = &one_and_one.as_flattened()[..15];
+    odd(rt, "a part of two points", 1, &record(0, 2), &p)?;
     odd(
         rt,
-        b"a part of two points",
+        "a part of no point, and one of one",
+        2,
+        none_and_one.as_flattened(),
+        &p,
+    )?;
+    odd(
+        rt,
+        "a part that leaves the points",
+        2,
+        one_and_two.as_flattened(),
+        &p,
+    )?;
+    odd(rt, "a record that leaves the segments", 2, short, &p)?;
+    odd(
+        rt,
+        "a corner off the map, and a point of no map",
         1,
-        &[0, 2, 0, 0, 0, 0, 0, 0],
-        &p,
-    )?;
-    odd(
-        rt,
-        b"a part of no point, and one of one",
-        2,
-        &[0, 0, 0, 0, 0, 0, 0, 0, 1, 1, 0, 0, 0, 0, 0, 0],
-        &p,
-    )?;
-    odd(
-        rt,
-        b"a part that leaves the points",
-        2,
-        &[0, 1, 0, 0, 0, 0, 0, 0, 1, 2, 0, 0, 0, 0, 0, 0],
-        &p,
-    )?;
-    odd(
-        rt,
-        b"a record that leaves the segments",
-        2,
-        &[0, 1, 0, 0, 0, 0, 0, 0, 1, 1, 0, 0, 0, 0, 0],
-        &p,
-    )?;
-    odd(
-        rt,
-        b"a corner off the map, and a point of no map",
-        1,
-        &[0, 2, 0, 0, 0, 0, 0, 0],
-        &[3, 4294967295, 4294967295, 5],
+        &record(0, 2),
+        &[3, u32::MAX, u32::MAX, 5],
     )
 }
 

@@ -16,7 +16,7 @@ pub fn at(words: &[u32], i: usize) -> u32
 pub fn get(words: &[u32], i: usize) -> u32
     ensures { result ≡ get_or words.now i 0 }
 {
-    if i < words.len() { words[i] } else { 0 }
+    words.get(i).copied().unwrap_or(0)
 }
 
 // The word v at i, or nothing where the store has no such word.
@@ -28,23 +28,15 @@ pub fn put(words: &mut [u32], i: usize, v: u32)
     }
 }
 
-// Two words from i on.
-pub fn put2(words: &mut [u32], i: usize, a: u32, b: u32)
-    ensures { words.new ≡ sets words.old i (a ∷ b ∷ []) }
+// These values from i on, as far as the store has places for them.
+pub fn put_all<const N: usize>(words: &mut [u32], i: usize, values: [u32; N])
+    ensures { words.new ≡ sets words.old i values.entry }
 {
-    if i < words.len() {
-        words[i] = a;
-        put(words, i + 1, b);
-    }
-}
-
-// Four words from i on.
-pub fn put4(words: &mut [u32], i: usize, a: u32, b: u32, c: u32, d: u32)
-    ensures { words.new ≡ sets words.old i (a ∷ b ∷ c ∷ d ∷ []) }
-{
-    if i < words.len() {
-        put2(words, i, a, b);
-        put2(words, i + 2, c, d);
+    let room = words.len().saturating_sub(i);
+    for (k, &v) in values.iter().enumerate() {
+        if k < room {
+            words[i + k] = v;
+        }
     }
 }
 
@@ -53,9 +45,5 @@ pub fn fill(words: &mut [u32], from: usize, n: usize, v: u32)
     requires { from + n ≤ length words.old }
     ensures { words.new ≡ sets words.old from (replicate n v) }
 {
-    let mut k: usize = 0;
-    while k < n {
-        words[from + k] = v;
-        k += 1;
-    }
+    words[from..from + n].fill(v);
 }

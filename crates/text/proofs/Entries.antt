@@ -4,7 +4,7 @@ use lib.Seq.{sets, length-sets}
 use Rattle.store.proofs.Writes.{sets_append}
 use Rattle.text.specs.Grammar.{SPACE, NEWLINE, Read, got, bad, read_number, read_label, left, broken, Lines, more, entries, line, after, lines, header, no_header, read_header}
 use Rattle.text.specs.Places.{PlaceIs, LinesRead}
-use Rattle.text.specs.declared.lines.Place.{Place}
+use Rattle.std.specs.Prelude.{Option}
 
 -- THE HEADER
 
@@ -144,7 +144,7 @@ module _ (whole : Lines) (store₀ : List ℕ) (base : ℕ) (w : ℕ) (s store :
         let f : entries (w - 1 - x) s ≡ nothing = ap (λ (n : ℕ). entries n s) z ∙ last_bad s e in
         (g.same ∙ ap (λ (l : Lines). l.rest) f, sym (g.stored ∙ ap (λ (l : Lines). sets store (base + x) l.labels) f))
 
-pub newline_read : (text s store : List ℕ) (base w : ℕ) (r : Place) → w ≡ 0 → PlaceIs text (line 0 s).rest r → LinesRead text (line w s) store base store r
+pub newline_read : (text s store : List ℕ) (base w : ℕ) (r : Option ℕ) → w ≡ 0 → PlaceIs text (line 0 s).rest r → LinesRead text (line w s) store base store r
 newline_read text s store base w r e h = rw e (record { place = h; stored = ap (sets store base) (sym (line_none_labels s)) })
 
 -- THE LINES, one after the other
@@ -157,9 +157,6 @@ module _ (w n : ℕ) (s : List ℕ) where
   pub lines_broken : (line w s).rest ≡ broken → lines w (suc n) s ≡ line w s
   unfolding lines
   lines_broken e = rw (e, lines) (λ i. record { labels = (line w s).labels; rest = e i })
-
-pub lines_starts : (w h : ℕ) (s store : List ℕ) → Going (lines w h s) store 0 (lines w (h - 0) s) store 0
-lines_starts w h s store = let e : h - 0 ≡ h = omega arith in rw e (record { long = refl; stored = refl; same = refl })
 
 module _ (whole : Lines) (store₀ : List ℕ) (w h : ℕ) (s store : List ℕ) (k y : ℕ) (g : Going whole store₀ 0 (lines w (h - y) s) store k) where
   module _ (m : y < h) (store' : List ℕ) (q : store' ≡ sets store k (line w s).labels) where

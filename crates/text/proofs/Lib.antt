@@ -3,6 +3,7 @@ pub mod Entries
 pub mod Parsing
 pub mod MapFacts
 pub mod Printing
+pub mod Lent
 pub mod Marking
 pub mod Decimals
 pub mod Words

@@ -1,8 +1,11 @@
 -- What a text that is parsed as a map gives: sides of 16 at most, and as many labels as there are pixels.
 use Rattle.std.proofs.Common.{◌≡◌, ℕ, zero, suc, ◌*◌, ◌≤◌, Bool, true, false, ltb, List, [], ◌∷◌, length, sym, refl, ap, ◌∙◌, suc-mul, mul_comm, zero-mul, arith, length-append, ltb-false}
 use Rattle.text.specs.Grammar.{Header, header, no_header, read_header, Rest, left, broken, Lines, line, after, lines}
-use Rattle.text.specs.Parse.{Outcome, whole, body, small, parsed}
-use Rattle.text.specs.declared.Parsed.TheVariants.{Map, TooBig}
+use Rattle.std.specs.Prelude.{Err}
+use Rattle.rules.specs.Picture.{OUTSIDE}
+use Rattle.lattice.specs.declared.Size.{Size}
+use Rattle.text.specs.Parse.{Map, Outcome, whole, body, small, parsed}
+use Rattle.text.specs.declared.BadMap.TheVariants.{TooBig}
 use Rattle.text.proofs.Entries.{line_length}
 
 pub lines_count : (w h : ℕ) (s t : List ℕ) → (lines w h s).rest ≡ left t → length (lines w h s).labels ≡ h * w
@@ -32,7 +35,9 @@ pub record IsMap (w h p : ℕ) (x : Header) (labels : List ℕ) : Type 0 where
 module _ (w h p : ℕ) where
   whole_map : (v k o : ℕ) (r : Rest) → whole (Map v k o) r ≡ Map w h p → (r ≡ left []) × (v ≡ w) × (k ≡ h) × (o ≡ p)
   unfolding whole
-  whole_map v k o (left []) e = (refl, cc, cc, cc)
+  whole_map v k o (left []) e =
+      let q : ◌≡◌ {A = Size} (record { width = v; height = k; paints = o; bound = OUTSIDE }) (record { width = w; height = h; paints = p; bound = OUTSIDE }) = cc in
+      (refl, ap (λ (s : Size). s.width) q, ap (λ (s : Size). s.height) q, ap (λ (s : Size). s.paints) q)
   whole_map v k o (left (b ∷ s)) e = let z : ◌≡◌ {A = ℕ} 0 1 = cc in absurd (omega arith)
   whole_map v k o broken e = let z : ◌≡◌ {A = ℕ} 0 1 = cc in absurd (omega arith)
 
@@ -42,8 +47,8 @@ module _ (w h p : ℕ) where
   small_map (header v k o s) e = go (ltb 16 v) refl (ltb 16 k) refl e
     where
       go : (a : Bool) → ltb 16 v ≡ a → (b : Bool) → ltb 16 k ≡ b
-          → (elim a as (λ _. Outcome) [ true ↦ record { answer = TooBig; labels = [] } | false ↦ elim b as (λ _. Outcome) [ true ↦ record { answer = TooBig; labels = [] } | false ↦ body v k o s ] ]).answer ≡ Map w h p
-          → IsMap w h p (header v k o s) (elim a as (λ _. Outcome) [ true ↦ record { answer = TooBig; labels = [] } | false ↦ elim b as (λ _. Outcome) [ true ↦ record { answer = TooBig; labels = [] } | false ↦ body v k o s ] ]).labels
+          → (elim a as (λ _. Outcome) [ true ↦ record { answer = Err TooBig; labels = [] } | false ↦ elim b as (λ _. Outcome) [ true ↦ record { answer = Err TooBig; labels = [] } | false ↦ body v k o s ] ]).answer ≡ Map w h p
+          → IsMap w h p (header v k o s) (elim a as (λ _. Outcome) [ true ↦ record { answer = Err TooBig; labels = [] } | false ↦ elim b as (λ _. Outcome) [ true ↦ record { answer = Err TooBig; labels = [] } | false ↦ body v k o s ] ]).labels
       go true q b r e = let z : ◌≡◌ {A = ℕ} 0 1 = cc in absurd (omega arith)
       go false q true r e = let z : ◌≡◌ {A = ℕ} 0 1 = cc in absurd (omega arith)
       go false q false r e =
@@ -65,7 +70,7 @@ module _ (w h p : ℕ) where
   unfolding parsed
   parsed_map s e = go (ltb 4096 (length s)) e
     where
-      go : (a : Bool) → (elim a as (λ _. Outcome) [ true ↦ record { answer = TooBig; labels = [] } | false ↦ small (read_header s) ]).answer ≡ Map w h p
-          → IsMap w h p (read_header s) (elim a as (λ _. Outcome) [ true ↦ record { answer = TooBig; labels = [] } | false ↦ small (read_header s) ]).labels
+      go : (a : Bool) → (elim a as (λ _. Outcome) [ true ↦ record { answer = Err TooBig; labels = [] } | false ↦ small (read_header s) ]).answer ≡ Map w h p
+          → IsMap w h p (read_header s) (elim a as (λ _. Outcome) [ true ↦ record { answer = Err TooBig; labels = [] } | false ↦ small (read_header s) ]).labels
       go true e = let z : ◌≡◌ {A = ℕ} 0 1 = cc in absurd (omega arith)
       go false e = small_map (read_header s) e

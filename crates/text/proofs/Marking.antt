@@ -1,6 +1,9 @@
 -- The tests of the mark of a contour, and its sums one number after the other.
-use Rattle.std.proofs.Common.{◌≡◌, ℕ, ◌+◌, ◌*◌, ◌%◌, ◌^◌, ◌<◌, ◌≤◌, List, get_or, sym, refl, ap, ◌∙◌, ap₂, add-one, arith, le-ltb, lt-ltb, eq-eqb, ne_eqb}
-use Rattle.text.specs.Mark.{summed, eastward, step_east}
+use Rattle.std.proofs.Common.{◌≡◌, ℕ, ◌+◌, ◌*◌, ◌%◌, ◌^◌, ◌<◌, ◌≤◌, List, get_or, refl, ◌∙◌, ap₂, add-one, arith, le-ltb, lt-ltb, eq-eqb, ne_eqb}
+use mathlib.Core.Bool.{Bool, true, false, not, beq}
+use native.Mathlib.Decide.{ℕ_discrete}
+use lib.Dec.{eqb}
+use Rattle.text.specs.Mark.{way_of, summed, eastward, step_east}
 
 pub eastward_yes : (ps : List ℕ) (i j : ℕ) → get_or ps (2 * i) 0 < get_or ps (2 * j) 0 → eastward ps i j ≡ get_or ps (2 * i + 1) 0
 unfolding eastward
@@ -18,19 +21,16 @@ pub step_back : (ps : List ℕ) (way i : ℕ) → (way ≡ 0 → ⊥) → step_e
 unfolding step_east
 step_back ps way i e = rw (ne_eqb way 0 e, step_east)
 
--- those before i are added, of n from f on
-pub record Summing (g : ℕ → ℕ) (n f t i : ℕ) : Type 0 where
-  pub few : i ≤ n
-  pub sum : t ≡ summed g i f
+-- the way of a reference, turned round or not
+pub way_back : (r : ℕ) (t : Bool) → way_of (not (beq (eqb (r % 2) 1) t)) ≡ (r + way_of t) % 2
+way_back r true = elim (ℕ_discrete (r % 2) 1) [ yes e ↦ rw (eq-eqb (r % 2) 1 e) (omega arith) | no n ↦ rw (ne_eqb (r % 2) 1 n) (omega arith) ]
+way_back r false = elim (ℕ_discrete (r % 2) 1) [ yes e ↦ rw (eq-eqb (r % 2) 1 e) (omega arith) | no n ↦ rw (ne_eqb (r % 2) 1 n) (omega arith) ]
 
-pub summing_none : (g : ℕ → ℕ) (n f : ℕ) → Summing g n f 0 0
+-- ONE NUMBER MORE
+pub summed_none : (g : ℕ → ℕ) (f : ℕ) → 0 ≡ summed g 0 f
 unfolding summed
-summing_none g n f = record { few = omega arith; sum = refl }
+summed_none g f = refl
 
-pub summing_more : {g : ℕ → ℕ} {n f t i v t' : ℕ} (k : ℕ) → f + i ≡ k → i < n → v ≡ g k → t' ≡ (t + v) % 2 ^ 64 → Summing g n f t i → Summing g n f t' (i + 1)
+pub summed_more : (g : ℕ → ℕ) (f n t v t' : ℕ) → t ≡ summed g n f → v ≡ g (f + n) → t' ≡ (t + v) % 2 ^ 64 → t' ≡ summed g (n + 1) f
 unfolding summed
-summing_more {g} {n} {f} {t} {i} {v} {t'} k e h p q s =
-    record { few = omega arith; sum = q ∙ ap₂ (λ (a b : ℕ). (a + b) % 2 ^ 64) s.sum (p ∙ ap g (sym e)) ∙ rw add-one refl }
-
-pub summing_all : {g : ℕ → ℕ} {n f t i : ℕ} → n ≤ i → Summing g n f t i → t ≡ summed g n f
-summing_all {g} {f = f} h s = s.sum ∙ ap (λ (k : ℕ). summed g k f) (omega (arith, s.few))
+summed_more g f n t v t' e p q = q ∙ ap₂ (λ (a b : ℕ). (a + b) % 2 ^ 64) e p ∙ rw add-one refl

@@ -5,7 +5,7 @@ use Rattle.text.specs.Grammar.{SPACE, NEWLINE, DOT, Number, number, unreadable, 
 use Rattle.text.specs.Parse.{parsed}
 use Rattle.text.specs.Output.{shown}
 use Rattle.text.specs.Written.{entry_of, line_of, lines_of, text_of}
-use Rattle.text.specs.declared.Parsed.TheVariants.{Map}
+use Rattle.text.specs.Parse.{Map}
 use Rattle.text.proofs.Decimals.{only_shown}
 use Rattle.text.proofs.Entries.{entries_length, line_length}
 use Rattle.text.proofs.MapFacts.{parsed_map}

@@ -6,7 +6,9 @@ use mathlib.Core.List.{Memᴰ as In}
 use native.Mathlib.Decide.{ℕ_discrete, dec_le}
 use lib.ListN.{get_or-append}
 use Rattle.rules.specs.Lists.{flat, upto}
-use Rattle.rules.specs.Picture.{Picture, picture, Dir, N, E, S, W, Dart, to_x, to_y, ahead_x, ahead_y, turned, crack}
+use Rattle.rules.specs.Picture.{Picture, picture, Dart, to_x, to_y, ahead_x, ahead_y, turned, crack}
+use Rattle.rules.specs.declared.Dir.{Dir}
+use Rattle.rules.specs.declared.Dir.TheVariants.{N, E, S, W}
 use Rattle.rules.specs.Graph.{segments}
 use Rattle.rules.specs.Describes.{Through, Segment, Describes}
 use Rattle.rules.specs.Face.{backwards, no_dart, steps, sides, faces}

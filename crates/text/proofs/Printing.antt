@@ -1,20 +1,16 @@
 -- Bytes put into a buffer one piece after the other, and the decimals.
-use Rattle.std.proofs.Common.{◌≡◌, ℕ, zero, suc, ◌+◌, ◌-◌, ◌/◌, ◌%◌, ◌<◌, ◌≤◌, List, [], ◌∷◌, ◌++◌, map, length, get_or, take, set, sym, refl, ap, ◌∙◌, add-one, arith, length-append, length-set, take-suc, le-ltb, lt-ltb, eq-eqb, ne_eqb}
+use Rattle.std.proofs.Common.{◌≡◌, ℕ, zero, suc, ◌+◌, ◌-◌, ◌/◌, ◌%◌, ◌<◌, ◌≤◌, List, [], ◌∷◌, ◌++◌, map, length, get_or, take, sym, refl, ap, ◌∙◌, add-one, arith, length-append, take-suc, le-ltb, lt-ltb, eq-eqb, ne_eqb}
 use native.Mathlib.Decide.{dec_le}
 use mathlib.Core.List.{map-append}
-use lib.Seq.{sets, set_out, length-sets}
+use lib.Seq.{sets, length-sets}
 use Rattle.rules.specs.Lists.{flat, upto}
 use Rattle.rules.specs.Records.{NONE}
 use Rattle.store.proofs.Writes.{sets_append, sets_out}
 use Rattle.rules.proofs.Ground.Lists.{upto_snoc, flat_snoc}
 use Rattle.text.specs.Bytes.{bytes}
+use Rattle.text.specs.declared.printer.Printer.{Printer}
+use Rattle.text.specs.Prints.{Prints}
 use Rattle.text.specs.Output.{Printed, shown_in, shown, field, optional, way, reference, pieces}
-
-pub put_in : (out : List ℕ) (at b : ℕ) → at < length out → Printed out at (b ∷ []) (set out at b) (at + 1)
-put_in out at b h = record { held = refl; place = omega arith; within = rw (length-set out at b) (omega arith) }
-
-pub put_out : (out : List ℕ) (at b : ℕ) → at ≤ length out → length out ≤ at → Printed out at (b ∷ []) out at
-put_out out at b h k = record { held = sym (set_out out at b k); place = omega arith; within = h }
 
 pub printed_none : (out : List ℕ) (at : ℕ) → at ≤ length out → Printed out at [] out at
 printed_none out at h = record { held = refl; place = omega arith; within = h }
@@ -25,10 +21,9 @@ printed_long {out} {bytes} {out'} {at} p = ap length p.held ∙ length-sets out 
 pub printed_as : {out bytes bytes' out' : List ℕ} {at next : ℕ} → bytes ≡ bytes' → Printed out at bytes out' next → Printed out at bytes' out' next
 printed_as e p = rw e at p
 
-infixr 50 ◌then◌
 -- one piece, and another after it
-pub ◌then◌ : {out a out₁ b out₂ : List ℕ} {at p next : ℕ} → Printed out at a out₁ p → Printed out₁ p b out₂ next → Printed out at (a ++ b) out₂ next
-◌then◌ {out} {a} {out₁} {b} {out₂} {at} {p} {next} x y =
+pub printed_then : {out a out₁ b out₂ : List ℕ} {at p next : ℕ} → Printed out at a out₁ p → Printed out₁ p b out₂ next → Printed out at (a ++ b) out₂ next
+printed_then {out} {a} {out₁} {b} {out₂} {at} {p} {next} x y =
     let l = printed_long x in
     let n = length-append a b in
     record {
@@ -97,28 +92,42 @@ pub reference_reversed : (r : ℕ) → (r ≡ NONE → ⊥) → (r % 2 ≡ 0 →
 unfolding reference way
 reference_reversed r e f = rw (ne_eqb r NONE e, reference) (rw (ne_eqb (r % 2) 0 f, way))
 
--- a word, byte by byte
-pub word_more : {out out₁ out₂ : List ℕ} {at p next : ℕ} (w : List ℕ) (i : ℕ) → i < length w → Printed out at (take i w) out₁ p → Printed out₁ p (get_or w i 0 ∷ []) out₂ next → Printed out at (take (i + 1) w) out₂ next
-word_more w i h x y = rw (add-one, take-suc w i 0 h) (x then y)
-
 -- PIECES, one after the other
 
 pub pieces_snoc : (g : ℕ → List ℕ) (n f k : ℕ) → f + n ≡ k → pieces g (n + 1) f ≡ pieces g n f ++ g k
 unfolding pieces
 pieces_snoc g n f k e = rw (add-one, upto_snoc n f, e) (rw (map-append g (upto n f) (k ∷ []), flat_snoc (map g (upto n f)) (g k)))
 
--- those before i are printed, of n from f on
-pub record Partly (g : ℕ → List ℕ) (n f : ℕ) (out : List ℕ) (at : ℕ) (out' : List ℕ) (next i : ℕ) : Type 0 where
-  pub few : i ≤ n
-  pub printed : Printed out at (pieces g i f) out' next
+-- BY A PRINTER
 
-pub partly_none : (g : ℕ → List ℕ) (n f : ℕ) (out : List ℕ) (at : ℕ) → at ≤ length out → Partly g n f out at out at 0
+pub prints_none : (p : Printer) → Prints p [] p
+prints_none p = record { same_buffer = refl; printed = printed_none p.out.now p.at p.within }
+
+pub prints_as : {p q : Printer} {a b : List ℕ} → a ≡ b → Prints p a q → Prints p b q
+prints_as e x = rw e at x
+
+infixr 50 ◌then◌
+-- one piece, and another after it
+pub ◌then◌ : {p q r : Printer} {a b : List ℕ} → Prints p a q → Prints q b r → Prints p (a ++ b) r
+x then y = record { same_buffer = y.same_buffer ∙ x.same_buffer; printed = printed_then x.printed y.printed }
+
+pub byte_more : {p q r : Printer} (w : List ℕ) (i : ℕ) → i < length w → Prints p (take i w) q → Prints q (get_or w i 0 ∷ []) r → Prints p (take (i + 1) w) r
+byte_more w i h x y = rw (add-one, take-suc w i 0 h) (x then y)
+
+pub no_piece : (g : ℕ → List ℕ) (f : ℕ) (p : Printer) → Prints p (pieces g 0 f) p
 unfolding pieces flat upto
-partly_none g n f out at h = record { few = omega arith; printed = printed_none out at h }
+no_piece g f p = prints_none p
 
-pub partly_more : {g : ℕ → List ℕ} {n f at p next i : ℕ} {out out₁ out₂ : List ℕ} (k : ℕ) → f + i ≡ k → i < n
-    → Partly g n f out at out₁ p i → Printed out₁ p (g k) out₂ next → Partly g n f out at out₂ next (i + 1)
-partly_more {g} {n} {f} {i = i} k e h x y = record { few = omega arith; printed = printed_as (sym (pieces_snoc g i f k e)) (x.printed then y) }
+pub piece_more : (g : ℕ → List ℕ) (f n : ℕ) {p q r : Printer} → Prints p (pieces g n f) q → Prints q (g (f + n)) r → Prints p (pieces g (n + 1) f) r
+piece_more g f n x y = prints_as (sym (pieces_snoc g n f (f + n) refl)) (x then y)
 
-pub partly_all : {g : ℕ → List ℕ} {n f at p i : ℕ} {out out₁ : List ℕ} → n ≤ i → Partly g n f out at out₁ p i → Printed out at (pieces g n f) out₁ p
-partly_all {g} {f = f} h x = printed_as (ap (λ (k : ℕ). pieces g k f) (omega (arith, x.few))) x.printed
+-- a number: the digits before the last one, if there are some, and the last one
+pub number_long : {p q r : Printer} (n : ℕ) → 10 ≤ n → Prints p (shown (n / 10)) q → Prints q ((48 + n % 10) ∷ []) r → Prints p (shown n) r
+number_long n h x y = prints_as (sym (shown_big n h)) (x then y)
+
+pub number_short : {p r : Printer} (n : ℕ) → n < 10 → Prints p ((48 + n % 10) ∷ []) r → Prints p (shown n) r
+number_short n h x = let e : n % 10 ≡ n = omega arith in prints_as (ap (λ (d : ℕ). (48 + d) ∷ []) e ∙ sym (shown_small n h)) x
+
+-- all of a text, from a buffer's first byte on
+pub finished : {p q : Printer} {out text out' : List ℕ} → p.out.now ≡ out → p.at ≡ 0 → out' ≡ q.out.now → Prints p text q → Printed out 0 text out' q.at
+finished {text = text} {out' = out'} e f g x = rw (e, f, ← g) at x.printed

@@ -1,6 +1,6 @@
 -- Room for every map of 16 by 16 pixels at most: no store of the sizes named here is short of what `whole` writes, and what is printed of the cut
 -- list has 53,160 bytes at most.
-use Rattle.std.proofs.Common.{◌≡◌, ℕ, ◌+◌, ◌*◌, ◌/◌, ◌<◌, ◌≤◌, ◌⊎◌, List, [], length, get_or, refl, ap, ⊎_elim, mul_assoc, mul-le-mul, arith, length-append}
+use Rattle.std.proofs.Common.{◌≡◌, ℕ, ◌+◌, ◌*◌, ◌/◌, ◌<◌, ◌≤◌, ◌⊎◌, List, [], length, get_or, refl, ap, ⊎_elim, mul_assoc, mul-le-mul, arith, length-append, ◌∙◌, sym}
 use Rattle.rules.specs.Lists.{upto}
 use Rattle.rules.specs.Picture.{Picture, picture, OUTSIDE, Dart}
 use Rattle.rules.specs.Graph.{segments}
@@ -20,8 +20,12 @@ use Rattle.calls.proofs.Demands.Answered.{every_whole}
 use Rattle.text.specs.Output.{pieces, map_line, count_line, node_line, seg_line, face_lines, report}
 use Rattle.text.specs.Parse.{parsed}
 use Rattle.text.specs.Program.{printed, answered, textmap}
-use Rattle.text.specs.declared.Parsed.{Parsed}
-use Rattle.text.specs.declared.Parsed.TheVariants.{Map, TooBig, BadText}
+use Rattle.std.specs.Prelude.{Result, Ok, Err}
+use Rattle.lattice.specs.declared.Size.{Size}
+use Rattle.calls.specs.Outcome.{map_of}
+use Rattle.text.proofs.Parsing.{map_is}
+use Rattle.text.specs.declared.BadMap.{BadMap}
+use Rattle.text.specs.declared.BadMap.TheVariants.{TooBig, BadText}
 use Rattle.text.proofs.MapFacts.{parsed_map}
 use Rattle.text.proofs.Words.{PaintsMost, parsed_words}
 use Rattle.text.proofs.Lengths.{field_short, pieces_most, pieces_each, node_short, seg_short, contour_most, face_short}
@@ -209,10 +213,9 @@ pub textmap_short : (text : List ℕ) → length (textmap text) ≤ 54696
 unfolding textmap answered
 textmap_short text = go (parsed text).answer refl (parsed_words text).paints
   where
-    go : (r : Parsed) → (parsed text).answer ≡ r → PaintsMost r → length (answered r (parsed text).labels) ≤ 54696
-    go (Map w h p) e b =
-        let k = parsed_map w h p text e in
-        printed_short (record { width = w; height = h; paints = p; bound = OUTSIDE; labels = (parsed text).labels })
-        (record { narrow = k.narrow; low = k.low; size = k.count; word = b }) (parsed_words text).labels
-    go TooBig e b = omega arith
-    go BadText e b = omega arith
+    go : (r : Result Size BadMap) → (parsed text).answer ≡ r → PaintsMost r → length (answered r (parsed text).labels) ≤ 54696
+    go (Ok s) e b =
+        let k = parsed_map s.width s.height s.paints text (e ∙ sym (map_is s b.1)) in
+        printed_short (map_of s (parsed text).labels) (record { narrow = k.narrow; low = k.low; size = k.count; word = b.0 }) (parsed_words text).labels
+    go (Err TooBig) e b = omega arith
+    go (Err BadText) e b = omega arith

@@ -9,8 +9,8 @@ use Rattle.text.specs.Grammar.{SPACE, NEWLINE, Number, number, decimal, at_most,
 use Rattle.text.specs.Parse.{whole, body, parsed}
 use Rattle.text.specs.Output.{shown}
 use Rattle.text.specs.Written.{entry_of, line_of, lines_of, text_of}
-use Rattle.text.specs.declared.Parsed.TheVariants.{Map}
-use Rattle.text.proofs.Scanning.{up_to_stop, up_to_other, label_dot, label_number}
+use Rattle.text.specs.Parse.{Map}
+use Rattle.text.proofs.Scanning.{up_to_stop, up_to_other, label_dot_stop, label_number}
 use Rattle.text.proofs.Entries.{header_good, entry_got, last_got, lines_more}
 use Rattle.text.proofs.Parsing.{inner}
 use Rattle.text.proofs.Decimals.{High, Form, form, reads_back}
@@ -44,7 +44,7 @@ entry_shown l n = rw (ne_eqb l OUTSIDE n, entry_of)
 entry_back : (stop l : ℕ) (t : List ℕ) → stop < 46 → l ≤ OUTSIDE → read_label stop (entry_of l ++ (stop ∷ t)) ≡ got l t
 entry_back stop l t s h =
     elim (ℕ_discrete l OUTSIDE) [
-      | yes e ↦ ap (λ (w : List ℕ). read_label stop (w ++ (stop ∷ t))) (entry_outside l e) ∙ label_dot stop s stop t refl ∙ ap (λ (v : ℕ). got v t) (sym e)
+      | yes e ↦ ap (λ (w : List ℕ). read_label stop (w ++ (stop ∷ t))) (entry_outside l e) ∙ label_dot_stop stop s stop t refl ∙ ap (λ (v : ℕ). got v t) (sym e)
       | no n ↦ ap (λ (w : List ℕ). read_label stop (w ++ (stop ∷ t))) (entry_shown l n) ∙ go n (form l)
     ]
   where

@@ -2,15 +2,14 @@
 use Rattle.std.proofs.Common.{◌≡◌, ℕ, ◌+◌, ◌-◌, ◌*◌, ◌<◌, ◌≤◌, Bool, true, false, leb, List, [], ◌∷◌, length, get_or, drop, sym, refl, ap, ◌∙◌, zero-add, add-one, arith, drop-cons, eq-eqb, ne_eqb, le-leb}
 use native.Mathlib.Decide.{ℕ_discrete}
 use borrow.Author.Tests.{lt-leb}
+use Rattle.std.proofs.Common.{inl, inr}
+use Rattle.std.specs.Char.{IsNotAsciiDigit}
 use Rattle.rules.specs.Picture.{OUTSIDE}
-use Rattle.text.specs.Grammar.{Number, unreadable, digits, decimal, at_most, label, Word, word, endless, longer, up_to, got, bad, before, reading, read_number, more_digits, read_label}
+use Rattle.text.specs.Grammar.{Number, unreadable, digits, decimal, at_most, label, Word, word, endless, longer, up_to, got, bad, before, reading, ended, read_number, more_digits, read_label}
 
 -- the text from a place on, byte first
 pub byte_first : (text : List ℕ) (i b : ℕ) → i < length text → b ≡ get_or text i 0 → drop i text ≡ b ∷ drop (i + 1) text
 byte_first text i b h e = rw (e, add-one) (drop-cons text i 0 h)
-
-pub two_first : (text : List ℕ) (i a : ℕ) → i < length text → a ≡ get_or text i 0 → (b : ℕ) → i + 1 < length text → b ≡ get_or text (i + 1) 0 → drop i text ≡ a ∷ b ∷ drop (i + 1 + 1) text
-two_first text i a h e b k f = byte_first text i a h e ∙ ap (λ (l : List ℕ). a ∷ l) (byte_first text (i + 1) b k f)
 
 -- a byte that is no digit spoils what follows
 pub digits_low : (acc b : ℕ) (w : List ℕ) → b < 48 → digits acc (b ∷ w) ≡ unreadable
@@ -87,6 +86,23 @@ module _ (most stop : ℕ) where
   unfolding more_digits at_most
   more_high a b s e h = rw (up_to_other stop b s e) (reading_longer_none (λ w. at_most most (digits a w)) b (up_to stop s) (λ w. ap (at_most most) (digits_high a b w h)))
 
+  pub more_other : (a b : ℕ) (s : List ℕ) → (b ≡ stop → ⊥) → IsNotAsciiDigit b → more_digits a most stop (b ∷ s) ≡ bad
+  more_other a b s e (inl h) = more_low a b s e h
+  more_other a b s e (inr h) = more_high a b s e h
+
+-- a value that the next byte ends, or does not
+pub ended_nil : (v stop : ℕ) → ended v stop [] ≡ bad
+unfolding ended
+ended_nil v stop = refl
+
+pub ended_stop : (v stop b : ℕ) (s : List ℕ) → b ≡ stop → ended v stop (b ∷ s) ≡ got v s
+unfolding ended
+ended_stop v stop b s e = rw (eq-eqb b stop e, ended)
+
+pub ended_other : (v stop b : ℕ) (s : List ℕ) → (b ≡ stop → ⊥) → ended v stop (b ∷ s) ≡ bad
+unfolding ended
+ended_other v stop b s e = rw (ne_eqb b stop e, ended)
+
 -- the first byte of a decimal
 pub decimal_low : (b : ℕ) (w : List ℕ) → b < 48 → decimal (b ∷ w) ≡ unreadable
 unfolding decimal
@@ -120,6 +136,10 @@ module _ (most stop : ℕ) (small : stop < 46) where
   unfolding read_number at_most
   number_high b s h = rw (up_to_other stop b s (λ e. omega arith)) (reading_longer_none (λ w. at_most most (decimal w)) b (up_to stop s) (λ w. ap (at_most most) (decimal_high b w h)))
 
+  pub number_other : (b : ℕ) (s : List ℕ) → IsNotAsciiDigit b → read_number most stop (b ∷ s) ≡ bad
+  number_other b s (inl h) = number_low b s h
+  number_other b s (inr h) = number_high b s h
+
   pub number_one : (b : ℕ) (s : List ℕ) → 48 < b → b ≤ 57 → read_number most stop (b ∷ s) ≡ more_digits (b - 48) most stop s
   unfolding read_number more_digits
   number_one b s h k =
@@ -127,15 +147,15 @@ module _ (most stop : ℕ) (small : stop < 46) where
       (reading_longer (λ w. at_most most (decimal w)) (λ w. at_most most (digits (b - 48) w)) b (up_to stop s) (λ w. ap (at_most most) (decimal_one b w h k)))
 
   -- a 0 stands alone
-  pub number_zero_end : read_number most stop (48 ∷ []) ≡ bad
+  number_zero_end : read_number most stop (48 ∷ []) ≡ bad
   unfolding read_number reading up_to longer
   number_zero_end = rw (up_to_other stop 48 [] (λ e. omega arith))
 
-  pub number_zero : (b : ℕ) (s : List ℕ) → b ≡ stop → read_number most stop (48 ∷ b ∷ s) ≡ got 0 s
+  number_zero_stop : (b : ℕ) (s : List ℕ) → b ≡ stop → read_number most stop (48 ∷ b ∷ s) ≡ got 0 s
   unfolding read_number reading longer before decimal digits at_most
-  number_zero b s e = rw (up_to_other stop 48 (b ∷ s) (λ k. omega arith)) (rw (up_to_stop stop b s e) (rw (le-leb 0 most (omega arith), at_most)))
+  number_zero_stop b s e = rw (up_to_other stop 48 (b ∷ s) (λ k. omega arith)) (rw (up_to_stop stop b s e) (rw (le-leb 0 most (omega arith), at_most)))
 
-  pub number_zero_more : (b : ℕ) (s : List ℕ) → (b ≡ stop → ⊥) → read_number most stop (48 ∷ b ∷ s) ≡ bad
+  number_zero_more : (b : ℕ) (s : List ℕ) → (b ≡ stop → ⊥) → read_number most stop (48 ∷ b ∷ s) ≡ bad
   unfolding read_number reading longer before decimal at_most
   number_zero_more b s e = rw (up_to_other stop 48 (b ∷ s) (λ k. omega arith)) (rw (up_to_other stop b s e) (two (up_to stop s)))
     where
@@ -143,26 +163,42 @@ module _ (most stop : ℕ) (small : stop < 46) where
       two (word w t) = refl
       two endless = refl
 
+  pub number_zero : (s : List ℕ) → read_number most stop (48 ∷ s) ≡ ended 0 stop s
+  unfolding ended
+  number_zero [] = number_zero_end
+  number_zero (b ∷ s) = elim (ℕ_discrete b stop) [
+    | yes e ↦ number_zero_stop b s e ∙ sym (ended_stop 0 stop b s e)
+    | no e ↦ number_zero_more b s e ∙ sym (ended_other 0 stop b s e)
+  ]
+
 module _ (stop : ℕ) (small : stop < 46) where
   pub label_nil : read_label stop [] ≡ bad
   unfolding read_label reading up_to
   label_nil = refl
 
-  pub label_dot_end : read_label stop (46 ∷ []) ≡ bad
+  label_dot_end : read_label stop (46 ∷ []) ≡ bad
   unfolding read_label reading up_to longer
   label_dot_end = rw (up_to_other stop 46 [] (λ e. omega arith))
 
-  pub label_dot : (b : ℕ) (s : List ℕ) → b ≡ stop → read_label stop (46 ∷ b ∷ s) ≡ got OUTSIDE s
+  pub label_dot_stop : (b : ℕ) (s : List ℕ) → b ≡ stop → read_label stop (46 ∷ b ∷ s) ≡ got OUTSIDE s
   unfolding read_label reading longer before label
-  label_dot b s e = rw (up_to_other stop 46 (b ∷ s) (λ k. omega arith)) (rw (up_to_stop stop b s e))
+  label_dot_stop b s e = rw (up_to_other stop 46 (b ∷ s) (λ k. omega arith)) (rw (up_to_stop stop b s e))
 
-  pub label_dot_more : (b : ℕ) (s : List ℕ) → (b ≡ stop → ⊥) → read_label stop (46 ∷ b ∷ s) ≡ bad
+  label_dot_more : (b : ℕ) (s : List ℕ) → (b ≡ stop → ⊥) → read_label stop (46 ∷ b ∷ s) ≡ bad
   unfolding read_label reading longer before label decimal digits at_most
   label_dot_more b s e = rw (up_to_other stop 46 (b ∷ s) (λ k. omega arith)) (rw (up_to_other stop b s e) (two (up_to stop s)))
     where
       two : (x : Word) → reading label (longer 46 (longer b x)) ≡ bad
       two (word w t) = refl
       two endless = refl
+
+  pub label_dot : (s : List ℕ) → read_label stop (46 ∷ s) ≡ ended OUTSIDE stop s
+  unfolding ended
+  label_dot [] = label_dot_end
+  label_dot (b ∷ s) = elim (ℕ_discrete b stop) [
+    | yes e ↦ label_dot_stop b s e ∙ sym (ended_stop OUTSIDE stop b s e)
+    | no e ↦ label_dot_more b s e ∙ sym (ended_other OUTSIDE stop b s e)
+  ]
 
   pub label_number : (b : ℕ) (s : List ℕ) → (b ≡ 46 → ⊥) → read_label stop (b ∷ s) ≡ read_number 4294967294 stop (b ∷ s)
   unfolding read_label read_number reading before label decimal at_most

@@ -3,9 +3,11 @@ use Rattle.std.proofs.Common.{◌≡◌, ℕ, zero, suc, ◌≤◌, Bool, true, 
 use Rattle.rules.specs.Picture.{OUTSIDE}
 use Rattle.rules.proofs.CutList.Values.{AtMost, most_append}
 use Rattle.text.specs.Grammar.{SPACE, NEWLINE, DOT, Number, number, unreadable, decimal, at_most, label, Word, word, endless, up_to, Read, got, bad, before, reading, read_number, read_label, Rest, left, broken, Lines, more, entries, line, after, lines, Header, header, no_header, read_header}
-use Rattle.text.specs.Parse.{Outcome, whole, body, small, parsed}
-use Rattle.text.specs.declared.Parsed.{Parsed}
-use Rattle.text.specs.declared.Parsed.TheVariants.{Map, TooBig, BadText}
+use Rattle.text.specs.Parse.{Map, Outcome, whole, body, small, parsed}
+use Rattle.std.specs.Prelude.{Result, Ok, Err}
+use Rattle.lattice.specs.declared.Size.{Size}
+use Rattle.text.specs.declared.BadMap.{BadMap}
+use Rattle.text.specs.declared.BadMap.TheVariants.{TooBig, BadText}
 
 -- A NUMBER AT MOST b, if one is read
 
@@ -118,38 +120,37 @@ header_words s = go₁ (read_number 4294967295 SPACE s)
 
 -- ALL OF IT
 
-abbrev pub PaintsMost : Parsed → Type 0
-PaintsMost (Map w h p) = p ≤ OUTSIDE
-PaintsMost TooBig = Unit {0}
-PaintsMost BadText = Unit {0}
+abbrev pub PaintsMost : Result Size BadMap → Type 0
+PaintsMost (Ok s) = (s.paints ≤ OUTSIDE) × (s.bound ≡ OUTSIDE)
+PaintsMost (Err e) = Unit {0}
 
 pub record ReadsWords (o : Outcome) : Type 0 where
   pub paints : PaintsMost o.answer
   pub labels : AtMost OUTSIDE o.labels
 
-nothing : (r : Parsed) → PaintsMost r → ReadsWords (record { answer = r; labels = [] })
+nothing : (r : Result Size BadMap) → PaintsMost r → ReadsWords (record { answer = r; labels = [] })
 nothing r h = record { paints = h; labels = tt }
 
 whole_words : (w h p : ℕ) (r : Rest) → p ≤ OUTSIDE → PaintsMost (whole (Map w h p) r)
 unfolding whole
-whole_words w h p (left []) m = m
+whole_words w h p (left []) m = (m, refl)
 whole_words w h p (left (b ∷ s)) m = tt
 whole_words w h p broken m = tt
 
 small_words : (x : Header) → HeaderMost x → ReadsWords (small x)
 unfolding small body
-small_words no_header m = nothing BadText tt
+small_words no_header m = nothing (Err BadText) tt
 small_words (header w h p s) m = go (ltb 16 w) (ltb 16 h)
   where
-    go : (a b : Bool) → ReadsWords (elim a as (λ _. Outcome) [ true ↦ record { answer = TooBig; labels = [] } | false ↦ elim b as (λ _. Outcome) [ true ↦ record { answer = TooBig; labels = [] } | false ↦ body w h p s ] ])
-    go true b = nothing TooBig tt
-    go false true = nothing TooBig tt
+    go : (a b : Bool) → ReadsWords (elim a as (λ _. Outcome) [ true ↦ record { answer = Err TooBig; labels = [] } | false ↦ elim b as (λ _. Outcome) [ true ↦ record { answer = Err TooBig; labels = [] } | false ↦ body w h p s ] ])
+    go true b = nothing (Err TooBig) tt
+    go false true = nothing (Err TooBig) tt
     go false false = record { paints = whole_words w h p (lines w h s).rest m; labels = lines_words w h s }
 
 pub parsed_words : (s : List ℕ) → ReadsWords (parsed s)
 unfolding parsed
 parsed_words s = go (ltb 4096 (length s))
   where
-    go : (a : Bool) → ReadsWords (elim a as (λ _. Outcome) [ true ↦ record { answer = TooBig; labels = [] } | false ↦ small (read_header s) ])
-    go true = nothing TooBig tt
+    go : (a : Bool) → ReadsWords (elim a as (λ _. Outcome) [ true ↦ record { answer = Err TooBig; labels = [] } | false ↦ small (read_header s) ])
+    go true = nothing (Err TooBig) tt
     go false = small_words (read_header s) (header_words s)

@@ -76,6 +76,11 @@ more_digits acc most stop s = reading (λ w. at_most most (digits acc w)) (up_to
 unfoldable pub read_label : ℕ → List ℕ → Read
 read_label stop s = reading label (up_to stop s)
 
+-- a value that is ended by the next byte
+unfoldable pub ended : ℕ → ℕ → List ℕ → Read
+ended value stop [] = bad
+ended value stop (b ∷ s) = elim (b == stop) [ true ↦ got value s | false ↦ bad ]
+
 -- LINES: the labels that were read, in order, and what follows, where all were in form
 
 pub data Rest : Type 0 where

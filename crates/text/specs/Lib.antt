@@ -4,5 +4,6 @@ pub mod Parse
 pub mod Places
 pub mod Mark
 pub mod Output
+pub mod Prints
 pub mod Written
 pub mod Program

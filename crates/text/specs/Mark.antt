@@ -1,6 +1,11 @@
 -- The mark of a contour, from any words of the stores (docs/RULES.md, #102): its steps east, by their y, against its steps west.
 use Rattle.std.specs.Prelude.{ℕ, zero, suc, ◌+◌, ◌-◌, ◌*◌, ◌/◌, ◌%◌, ◌^◌, Bool, true, false, List, ◌==◌, nat_lt, slice_index, slice_index_or}
 
+-- the number of a way, or of a turn: 0 as it goes, 1 back
+abbrev pub way_of : Bool → ℕ
+way_of false = 0
+way_of true = 1
+
 -- what n numbers from f on count for, added in 64 bits
 unfoldable pub summed : (ℕ → ℕ) → ℕ → ℕ → ℕ
 summed g zero f = 0

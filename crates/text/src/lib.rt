@@ -4,18 +4,22 @@
 mod lines;
 mod mark;
 mod print;
+mod printer;
 pub mod report;
 mod scan;
 
-ghost use Rattle.std.specs.Prelude.{◌≡◌, ◌*◌, ◌≤◌, length};
+ghost use Rattle.std.specs.Prelude.{◌≡◌, ◌*◌, ◌≤◌, [], ◌∷◌, ◌++◌, length};
 ghost use Rattle.calls.specs.Outcome.{map_of};
 ghost use Rattle.text.specs.Parse.{parsed};
 ghost use Rattle.text.specs.Places.{ParsedIs};
 ghost use Rattle.text.specs.Output.{Printed};
-ghost use Rattle.text.specs.Program.{printed, textmap as textmap_of};
+ghost use Rattle.text.specs.Program.{message, printed, textmap as textmap_of};
 
 use lattice::Size;
-use lines::{Head, Place};
+use printer::Printer;
+use report::CutList;
+use std::error::Error;
+use std::fmt;
 
 // Of a map of 16 by 16 pixels, and how many cracks it has at most.
 const PIXELS: usize = 16 * 16;
@@ -24,52 +28,59 @@ const CORNERS: usize = 17 * 17;
 
 const CRACKS: usize = 2 * 16 * 16 + 16 + 16;
 
-#[derive(Clone, Copy)]
-pub enum Parsed {
-    Map {
-        width: u32,
-        height: u32,
-        paints: u32,
-    },
+/// Why a text is not read as a map.
+#[derive(Clone, Copy, Debug, PartialEq, Eq)]
+pub enum BadMap {
     TooBig,
     BadText,
 }
 
+impl BadMap {
+    fn text(self) -> &'static str
+        ensures { result.now ≡ message self }
+    {
+        match self {
+            BadMap::TooBig => "too big",
+            BadMap::BadText => "bad text",
+        }
+    }
+}
+
+impl fmt::Display for BadMap {
+    fn fmt<W: fmt::Write>(&self, f: &mut fmt::Formatter<W>) -> fmt::Result {
+        f.write_str(self.text())
+    }
+}
+
+impl Error for BadMap {}
+
 // Every list of bytes has one outcome. The labels that were read go to the store from its first word on; those that it has no
 // room for are dropped, and no other word changes.
-pub fn parse(text: &[u8], labels: &mut [u32]) -> Parsed
+pub fn parse(text: &[u8], labels: &mut [u32]) -> Result<Size, BadMap>
     ensures { ParsedIs (parsed text.now) labels.old labels.new result }
 {
     if 4096 < text.len() {
-        return Parsed::TooBig;
+        return Err(BadMap::TooBig);
     }
-    let Head::Good {
-        width,
-        height,
-        paints,
+    let (size, next) = lines::header(text).ok_or(BadMap::BadText)?;
+    if 16 < size.width {
+        return Err(BadMap::TooBig);
+    }
+    if 16 < size.height {
+        return Err(BadMap::TooBig);
+    }
+    let last = lines::lines_at(
+        text,
         next,
-    } = lines::header(text)
-    else {
-        return Parsed::BadText;
-    };
-    if 16 < width {
-        return Parsed::TooBig;
-    }
-    if 16 < height {
-        return Parsed::TooBig;
-    }
-    let Place::At(last) = lines::lines_at(text, next, width as usize, height as usize, labels)
-    else {
-        return Parsed::BadText;
-    };
+        size.width as usize,
+        size.height as usize,
+        labels,
+    )
+    .ok_or(BadMap::BadText)?;
     if last < text.len() {
-        return Parsed::BadText;
+        return Err(BadMap::BadText);
     }
-    Parsed::Map {
-        width,
-        height,
-        paints,
-    }
+    Ok(size)
 }
 
 // The cut list of a map of 16 by 16 pixels at most: no store is short.
@@ -84,7 +95,7 @@ fn print_map(s: Size, labels: &[u32], out: &mut [u8]) -> usize
     let mut references = [0u32; 2 * CRACKS];
     let mut contours = [0u32; 2 * CORNERS];
     let mut faces = [0u32; 5 * PIXELS];
-    let a = calls::whole(
+    let counts = calls::whole(
         s,
         labels,
         &mut work,
@@ -94,18 +105,27 @@ fn print_map(s: Size, labels: &[u32], out: &mut [u8]) -> usize
         &mut references,
         &mut contours,
         &mut faces,
-    );
-    report::print_report(
-        out,
-        s,
-        a,
-        &nodes,
-        &segments,
-        &points,
-        &references,
-        &contours,
-        &faces,
     )
+    .unwrap();
+    let list = CutList {
+        nodes: &nodes,
+        segments: &segments,
+        points: &points,
+        references: &references,
+        contours: &contours,
+        faces: &faces,
+    };
+    list.print_report(out, s, counts)
+}
+
+// A line of its own.
+fn print_line(text: &str, out: &mut [u8]) -> usize
+    ensures { Printed out.old 0 (text.now ++ (10 ∷ [])) out.new result }
+{
+    let mut printer = Printer::new(out);
+    printer.word(text.as_bytes());
+    printer.byte(b'\n');
+    printer.at
 }
 
 // What the program prints for what it reads, into a lent buffer: what has no room there is dropped, and the answer is the number of
@@ -114,23 +134,11 @@ pub fn textmap(input: &[u8], out: &mut [u8]) -> usize
     ensures { Printed out.old 0 (textmap_of input.now) out.new result }
 {
     let mut labels = [0u32; PIXELS];
-    let p = parse(input, &mut labels);
-    match p {
-        Parsed::Map {
-            width,
-            height,
-            paints,
-        } => {
-            let count = (width as usize) * (height as usize);
-            let s = Size {
-                width,
-                height,
-                paints,
-                bound: lattice::OUTSIDE,
-            };
+    match parse(input, &mut labels) {
+        Ok(s) => {
+            let count = (s.width as usize) * (s.height as usize);
             print_map(s, &labels[..count], out)
         }
-        Parsed::TooBig => print::word(out, 0, b"too big\n"),
-        Parsed::BadText => print::word(out, 0, b"bad text\n"),
+        Err(bad) => print_line(bad.text(), out),
     }
 }

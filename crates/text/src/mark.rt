@@ -1,114 +1,82 @@
 // The mark of a contour, from the words of the stores: what goes east along it, by y, against what goes west. A word past the end of a store is read as 0.
-ghost use Rattle.std.specs.Prelude.{◌≡◌, ◌-◌, ◌<◌};
-ghost use Rattle.text.specs.Mark.{eastward, step_east, summed, segment_east, reference_east, outlined};
+ghost use Rattle.std.specs.Prelude.{◌≡◌, ◌+◌, ◌<◌, ℕ};
+ghost use Rattle.text.specs.Mark.{way_of, eastward, step_east, summed as summed_of, segment_east, reference_east, contour_east, outlined};
 
-// y of the point i where the point j lies east of it, else 0.
-fn eastward(points: &[u32], i: usize, j: usize) -> u64
-    requires { (i < 17179869184) × (j < 17179869184) }
-    ensures { result ≡ eastward points.now i j }
+use crate::report::CutList;
+
+// What `east` comes to for each number from `first` on, `n` of them, added in 64 bits.
+fn summed<F: Fn(usize) -> u64>(first: u32, n: u32, east: F) -> u64
+    ghost each: { ℕ → ℕ }
+    requires callable { (i : ℕ) → i < first + n → i < first + 4294967296 → F.pre east i }
+    requires values { (i v : ℕ) → i < first + n → i < first + 4294967296 → F.post east i v → v ≡ each i }
+    ensures { result ≡ summed_of each n first }
 {
-    let from = store::get(points, 2 * i);
-    let to = store::get(points, 2 * j);
-    if from < to {
-        let y = store::get(points, 2 * i + 1);
-        return y as u64;
+    let mut total: u64 = 0;
+    for i in 0..n {
+        total = total.wrapping_add(east(first as usize + i as usize));
     }
-    0
+    total
 }
 
-// Of the step from the point i to the next one, or back.
-fn step_east(points: &[u32], way: u32, i: usize) -> u64
-    requires { i < 8589934592 }
-    ensures { result ≡ step_east points.now way i }
-{
-    if way == 0 {
-        return eastward(points, i, i + 1);
+impl<'a> CutList<'a> {
+    // y of the point i where the point j lies east of it, else 0.
+    fn eastward(&self, i: usize, j: usize) -> u64
+        requires { (i < 17179869184) × (j < 17179869184) }
+        ensures { result ≡ eastward self.now.points.now i j }
+    {
+        if store::get(self.points, 2 * i) < store::get(self.points, 2 * j) {
+            return u64::from(store::get(self.points, 2 * i + 1));
+        }
+        0
     }
-    eastward(points, i + 1, i)
-}
 
-// Of n steps from the point `first` on.
-fn steps_east(points: &[u32], way: u32, first: u32, n: u32) -> u64
-    ensures { result ≡ summed (step_east points.now way) n first }
-{
-    let mut t: u64 = 0;
-    let mut i = 0;
-    while i < n {
-        let v = step_east(points, way, (first as usize) + (i as usize));
-        t = std::num::wrapping_add_u64(t, v);
-        i += 1;
+    // Of the step from the point i to the next one, or back.
+    fn step_east(&self, back: bool, i: usize) -> u64
+        requires { i < 8589934592 }
+        ensures { result ≡ step_east self.now.points.now (way_of back) i }
+    {
+        if back {
+            return self.eastward(i + 1, i);
+        }
+        self.eastward(i, i + 1)
     }
-    t
-}
 
-// One less; 0 stays.
-fn one_less(n: u32) -> u32
-    ensures { result ≡ n - 1 }
-{
-    if n == 0 {
-        return 0;
+    // Of the steps of the segment i.
+    fn segment_east(&self, back: bool, i: u32) -> u64
+        ensures { result ≡ segment_east self.now.segments.now self.now.points.now (way_of back) i }
+    {
+        let k = 8 * (i as usize);
+        let first = store::get(self.segments, k);
+        let count = store::get(self.segments, k + 1);
+        summed(first, count.saturating_sub(1), |p| self.step_east(back, p))
     }
-    n - 1
-}
 
-// Of the steps of the segment i.
-fn segment_east(segments: &[u32], points: &[u32], way: u32, i: u32) -> u64
-    ensures { result ≡ segment_east segments.now points.now way i }
-{
-    let k = 8 * (i as usize);
-    let first = store::get(segments, k);
-    let count = store::get(segments, k + 1);
-    let n = one_less(count);
-    steps_east(points, way, first, n)
-}
-
-// Of the steps of the reference number j, as it goes or turned round.
-fn reference_east(segments: &[u32], points: &[u32], references: &[u32], turn: u32, j: usize) -> u64
-    requires { turn < 2 }
-    ensures { result ≡ reference_east segments.now points.now references.now turn j }
-{
-    let r = store::get(references, j);
-    let way = ((r as u64) + (turn as u64)) % 2;
-    segment_east(segments, points, way as u32, r / 2)
-}
-
-// Of n references from the one numbered `first` on.
-fn references_east(
-    segments: &[u32],
-    points: &[u32],
-    references: &[u32],
-    turn: u32,
-    first: u32,
-    n: u32,
-) -> u64
-    requires { turn < 2 }
-    ensures { result ≡ summed (reference_east segments.now points.now references.now turn) n first }
-{
-    let mut t: u64 = 0;
-    let mut i = 0;
-    while i < n {
-        let j = (first as usize) + (i as usize);
-        let v = reference_east(segments, points, references, turn, j);
-        t = std::num::wrapping_add_u64(t, v);
-        i += 1;
+    // Of the steps of the reference number j, as it goes or turned round.
+    fn reference_east(&self, turned: bool, j: usize) -> u64
+        ensures { result ≡ reference_east self.now.segments.now self.now.points.now self.now.references.now (way_of turned) j }
+    {
+        let r = store::get(self.references, j);
+        let back = r % 2 == 1;
+        self.segment_east(back != turned, r / 2)
     }
-    t
-}
 
-// Whether the contour k is an outline.
-pub fn outlined(
-    segments: &[u32],
-    points: &[u32],
-    references: &[u32],
-    contours: &[u32],
-    k: usize,
-) -> bool
-    requires { k < 8589934592 }
-    ensures { result ≡ outlined segments.now points.now references.now contours.now k }
-{
-    let first = store::get(contours, 2 * k);
-    let n = store::get(contours, 2 * k + 1);
-    let east = references_east(segments, points, references, 0, first, n);
-    let west = references_east(segments, points, references, 1, first, n);
-    west < east
+    // Of the steps of the contour k, as they go or turned round.
+    fn contour_east(&self, turned: bool, k: usize) -> u64
+        requires { k < 8589934592 }
+        ensures { result ≡ contour_east self.now.segments.now self.now.points.now self.now.references.now self.now.contours.now (way_of turned) k }
+    {
+        let first = store::get(self.contours, 2 * k);
+        let n = store::get(self.contours, 2 * k + 1);
+        summed(first, n, |j| self.reference_east(turned, j))
+    }
+
+    // Whether the contour k is an outline.
+    pub fn outlined(&self, k: usize) -> bool
+        requires { k < 8589934592 }
+        ensures { result ≡ outlined self.now.segments.now self.now.points.now self.now.references.now self.now.contours.now k }
+    {
+        let east = self.contour_east(false, k);
+        let west = self.contour_east(true, k);
+        west < east
+    }
 }

@@ -1,14 +1,17 @@
 -- The number of a map whose labels run past the store, and the places behind a map.
-use Prim.Native.Nat.{ℕ, suc, ◌+◌, ◌-◌, ◌*◌, ◌<◌, ◌≤◌}
-use mathlib.Core.Bool.{true, false, true≢false}
+use Prim.Native.Nat.{ℕ, ◌+◌, ◌-◌, ◌*◌, ◌<◌, ◌≤◌}
 use mathlib.Core.Path.{◌≡◌, sym, ap, ◌∙◌}
-use mathlib.Core.List.{List, [], ◌∷◌}
 use native.Mathlib.Omega.{arith}
 use native.Mathlib.Nat.{mul-le-mul, add-zero}
-use lib.Seq.{sets}
-use borrow.Author.Tests.{lt-ltb, le-ltb, ltb-true, ne_eqb, eq-eqb}
+use native.Mathlib.Decide.{dec_lt}
+use borrow.Author.Tests.{lt-ltb, le-ltb, ne_eqb}
+use Rattle.std.specs.Prelude.{Some, None, Result, Ok, Err}
 use Rattle.rules.specs.Calls.{Answer}
 use Rattle.lattice.specs.declared.Size.{Size}
+use Rattle.calls.specs.declared.Counts.{Counts}
+use Rattle.calls.specs.declared.Refused.{Refused}
+use Rattle.calls.specs.Outcome.{answer_of}
+use Rattle.calls.proofs.Refusals.{positive}
 use Rattle.tray.specs.declared.Places.{Places}
 use Rattle.tray.specs.Tray.{past_number, Six, same, both, wrote}
 use Rattle.tray.specs.Steps.{Starts}
@@ -30,40 +33,33 @@ past_small t k h = rw (le-ltb 16384 t.width k, le-ltb 16384 t.height h, past_num
 -- LABELS
 
 module _ (held size : ℕ) (p : Places) where
-  pub starts_past : p.past ≡ true → (start : ℕ) → Starts held p start → Starts held p (start + size)
-  starts_past e start s =
-      let behind : held < start = ltb-true held start (sym s.past ∙ e) in
-      record {
-        past = e ∙ sym (lt-ltb held (start + size) (omega arith));
-        here = λ f. absurd (true≢false (sym e ∙ f));
-      }
+  -- past them all
+  behind : p.labels ≡ None → (start : ℕ) → Starts held p start → held < start
+  behind e start s = elim (dec_lt held start) [
+    | yes b ↦ b
+    | no b ↦ (let h = s.here (omega arith) in absurd (let z : None ≡ Some start = sym e ∙ h in cc))
+  ]
 
-  pub starts_over : p.labels ≤ held → p.past ≡ false → held - p.labels < size → (start : ℕ) → Starts held p start → (q : Places) → q.past ≡ true → Starts held q (start + size)
-  starts_over w e h start s q f =
-      let at : p.labels ≡ start = s.here e in
-      record {
-        past = f ∙ sym (lt-ltb held (start + size) (omega arith));
-        here = λ g. absurd (true≢false (sym f ∙ g));
-      }
-
-  pub starts_next : p.labels ≤ held → p.past ≡ false → size ≤ held - p.labels → (start : ℕ) → Starts held p start → (q : Places) → q.past ≡ false → q.labels ≡ p.labels + size → Starts held q (start + size)
-  starts_next w e h start s q f g =
-      let at : p.labels ≡ start = s.here e in
-      record {
-        past = f ∙ sym (le-ltb held (start + size) (omega arith));
-        here = λ _. omega (arith, g, at);
-      }
+  -- and not
+  there : (k : ℕ) → p.labels ≡ Some k → (start : ℕ) → Starts held p start → k ≡ start
+  there k e start s = elim (dec_lt held start) [
+    | yes b ↦ (let h = s.past b in absurd (let z : None ≡ Some k = sym h ∙ e in cc))
+    | no b ↦ (let h = s.here (omega arith) in let z : Some k ≡ Some start = sym e ∙ h in cc)
+  ]
 
   -- that a part runs past the labels, or does not
-  pub over_already : p.past ≡ true → (start : ℕ) → Starts held p start → held < start + size
-  over_already e start s =
-      let behind : held < start = ltb-true held start (sym s.past ∙ e) in omega arith
+  pub over_already : p.labels ≡ None → (start : ℕ) → Starts held p start → held < start + size
+  over_already e start s = omega (arith, behind e start s)
 
-  pub over_now : p.labels ≤ held → p.past ≡ false → held - p.labels < size → (start : ℕ) → Starts held p start → held < start + size
-  over_now w e h start s = let at : p.labels ≡ start = s.here e in omega arith
+  module _ (k : ℕ) (w : k ≤ held) (e : p.labels ≡ Some k) (start : ℕ) (s : Starts held p start) where
+    pub starts_at : k ≡ start
+    starts_at = there k e start s
 
-  pub not_over : p.labels ≤ held → p.past ≡ false → size ≤ held - p.labels → (start : ℕ) → Starts held p start → start + size ≤ held
-  not_over w e h start s = let at : p.labels ≡ start = s.here e in omega arith
+    pub over_now : held - k < size → held < start + size
+    over_now h = omega (arith, there k e start s)
+
+    pub not_over : size ≤ held - k → start + size ≤ held
+    not_over h = omega (arith, there k e start s)
 
 -- RECORDS
 
@@ -71,9 +67,15 @@ pub wrote_none : (a : Answer) → (a.number ≡ 0 → ⊥) → wrote a ≡ same 
 unfolding wrote
 wrote_none a h = rw (ne_eqb a.number 0 h, wrote)
 
-pub wrote_some : (a : Answer) → a.number ≡ 0 → wrote a ≡ record { nodes = 6 * a.nodes; segments = 8 * a.segments; points = 2 * a.points; references = a.references; contours = 2 * a.contours; faces = 5 * a.faces }
+pub wrote_refused : {r : Result Counts Refused} {refused : Refused} → r ≡ Err refused → wrote (answer_of r) ≡ same 0
+wrote_refused {r} {refused} e =
+    let known = positive refused.why in
+    ap (λ (q : Result Counts Refused). wrote (answer_of q)) e ∙ wrote_none (answer_of (Err refused)) (λ z. omega (arith, z, known))
+
+pub wrote_counted : {r : Result Counts Refused} {c : Counts} → r ≡ Ok c
+    → wrote (answer_of r) ≡ record { nodes = 6 * c.nodes; segments = 8 * c.segments; points = 2 * c.points; references = c.references; contours = 2 * c.contours; faces = 5 * c.faces }
 unfolding wrote
-wrote_some a h = rw (eq-eqb a.number 0 h, wrote)
+wrote_counted e = ap (λ (q : Result Counts Refused). wrote (answer_of q)) e
 
 -- no records more
 pub none_more : (n : Six ℕ) → both ◌+◌ n (same 0) ≡ n
@@ -89,10 +91,3 @@ none_more n = λ i. record {
 -- two 32-bit words have a 64-bit product
 pub product_fits : (a b : ℕ) → a ≤ 4294967295 → b ≤ 4294967295 → a * b ≤ 18446744065119617025
 product_fits a b p q = mul-le-mul p q
-
--- EIGHT WORDS, four at a time
-pub sets_eight : (l : List ℕ) (i a b c d e f g h : ℕ)
-    → sets (sets l i (a ∷ b ∷ c ∷ d ∷ [])) (i + 4) (e ∷ f ∷ g ∷ h ∷ []) ≡ sets l i (a ∷ b ∷ c ∷ d ∷ e ∷ f ∷ g ∷ h ∷ [])
-sets_eight l i a b c d e f g h =
-    let four : i + 4 ≡ suc (suc (suc (suc i))) = omega arith in
-    ap (λ (k : ℕ). sets (sets l i (a ∷ b ∷ c ∷ d ∷ [])) k (e ∷ f ∷ g ∷ h ∷ [])) four

@@ -1,6 +1,5 @@
 -- What holds while a tray is laid: it begins, goes on with each map, and is over.
-use Prim.Native.Nat.{ℕ, suc, ◌+◌, ◌*◌, ◌<◌, ◌≤◌, zero-le}
-use mathlib.Core.Bool.{false}
+use Prim.Native.Nat.{ℕ, suc, ◌+◌, ◌*◌, ◌<◌, ◌≤◌}
 use mathlib.Core.Path.{◌≡◌, refl, sym, ap, subst, ◌∙◌}
 use mathlib.Core.List.{List, [], ◌∷◌, ◌++◌, map, append_assoc, append-nil}
 use native.Mathlib.Omega.{arith}
@@ -9,13 +8,15 @@ use lib.Seq.{sets, sets-eq, take_at, drop_at, drop-cons, drop-drop, length-take-
 use borrow.Author.Tests.{lt-ltb, le-ltb}
 use Rattle.rules.specs.Lists.{flat}
 use Rattle.rules.specs.Calls.{Answer}
-use Rattle.calls.specs.declared.Answer.{Answer as MosaicAnswer}
+use Rattle.calls.specs.declared.Counts.{Counts}
+use Rattle.calls.specs.declared.Refused.{Refused}
 use Rattle.calls.specs.Outcome.{answer_of}
 use Rattle.calls.specs.Mode.{size_in}
 use Rattle.lattice.specs.declared.Size.{Size}
+use Rattle.std.specs.Prelude.{Some, Result}
 use Rattle.tray.specs.declared.Places.{Places}
 use Rattle.tray.specs.Tray.{tiles, pixels, Six, Stores, same, both, work_of, stores_of, single, wrote, Run, run, words, laid, tray}
-use Rattle.tray.specs.Steps.{afterwards, used, Starts, Inside, Tiled, LabelsPassed, Fits, RecordsPassed}
+use Rattle.tray.specs.Steps.{LabelsWithin, afterwards, used, Starts, Inside, Tiled, LabelsPassed, Fits, RecordsPassed}
 use Rattle.tray.proofs.Runs.{lengths, both_assoc, both_nil, both_split, behind, behind_one}
 use Rattle.tray.proofs.Single.{Within, single_within}
 
@@ -113,7 +114,7 @@ more_records r x n h = λ i. record {
 }
 
 -- places behind the records of a map are words of 64 bits, as the lengths of the stores are
-pub records_fit : (p q : Places) (a : MosaicAnswer) {s : Stores} → Within (both ◌+◌ (used p) (wrote (answer_of a))) s → used q ≡ used p
+pub records_fit : (p q : Places) (a : Result Counts Refused) {s : Stores} → Within (both ◌+◌ (used p) (wrote (answer_of a))) s → used q ≡ used p
     → length s.nodes ≤ 18446744073709551615
     → length s.segments ≤ 18446744073709551615
     → length s.points ≤ 18446744073709551615
@@ -148,9 +149,9 @@ module _ (mode : ℕ) (maps labels first-work : List ℕ) (first-stores : Stores
     pub places : used p ≡ lengths records
     pub answered : answers ≡ flat (map words done) ++ drop (8 * i) old
     pub starts : Starts (length labels) p start
-    pub within : p.labels ≤ length labels
+    pub within : LabelsWithin (length labels) p
 
-  pub begins : Progress 0 (record { labels = 0; past = false; nodes = 0; segments = 0; points = 0; references = 0; contours = 0; faces = 0 }) first-work first-stores old
+  pub begins : Progress 0 (record { labels = Some 0; nodes = 0; segments = 0; points = 0; references = 0; contours = 0; faces = 0 }) first-work first-stores old
   unfolding flat
   begins = record {
     done = [];
@@ -162,8 +163,8 @@ module _ (mode : ℕ) (maps labels first-work : List ℕ) (first-stores : Stores
     stands = refl;
     places = refl;
     answered = refl;
-    starts = record { past = sym (le-ltb (length labels) 0 zero-le); here = λ _. refl };
-    within = zero-le;
+    starts = record { past = λ h. absurd (omega arith); here = λ _. refl };
+    within = λ k e. let z : 0 ≡ k = cc in omega arith;
   }
 
   module _ {i : ℕ} {p : Places} {work : List ℕ} {s : Stores} {answers : List ℕ} (g : Progress i p work s answers) where
@@ -189,7 +190,7 @@ module _ (mode : ℕ) (maps labels first-work : List ℕ) (first-stores : Stores
 
     -- a map is laid, and its words are put behind the others
     module _ (t : Size) (is : t ≡ tile_at mode maps (3 * i)) (more : 3 * i + 2 < length maps) (room : 8 * i + 8 ≤ length old)
-        {work' : List ℕ} {s' : Stores} (a : MosaicAnswer)
+        {work' : List ℕ} {s' : Stores} (a : Result Counts Refused)
         (laid-it : (start : ℕ) → Starts (length labels) p start → Tiled (single t start labels work (both drop (used p) s)) (both take (used p) s) work' s' a) where
       here : Tiled (single t g.start labels work g.left) g.records work' s' a
       here =
@@ -242,8 +243,8 @@ module _ (mode : ℕ) (maps labels first-work : List ℕ) (first-stores : Stores
                 ∙ words_put g.done o.answer i old g.many room;
             starts =
                 let there = lp.starts g.start g.starts in
-                record { past = rp.past ∙ there.past; here = λ e. rp.labels ∙ there.here (sym rp.past ∙ e) };
-            within = omega (arith, rp.labels, lp.within);
+                record { past = λ h. rp.labels ∙ there.past h; here = λ h. rp.labels ∙ there.here h };
+            within = λ k e. lp.within k (sym rp.labels ∙ e);
           }
 
 -- OVER

@@ -9,8 +9,10 @@ use lib.Dec.{ltb}
 use lib.ListN.{length, take, drop, length-append, length-drop, drop_of_length-le}
 use lib.Seq.{take_all}
 use borrow.Author.Tests.{le-leb, lt-leb}
+use Rattle.std.specs.Prelude.{Result}
 use Rattle.rules.specs.Calls.{Map, cut_list, counted, refused, Outcome, Check, first_hit, map_checks, graph_checks, face_checks, whole}
-use Rattle.calls.specs.declared.Answer.{Answer as MosaicAnswer}
+use Rattle.calls.specs.declared.Counts.{Counts}
+use Rattle.calls.specs.declared.Refused.{Refused}
 use Rattle.calls.specs.Outcome.{map_of, answer_of, outcome}
 use Rattle.calls.proofs.Settled.{cleared, written, Settled, settled, number_is}
 use Rattle.lattice.specs.declared.Size.{Size}
@@ -125,7 +127,7 @@ back_is a xs ys =
 
 module _ (t : Size) (labels work : List ℕ) (s : Stores) (p : Places) where
   -- a map whose labels run past the store
-  pub tiled_past : (start : ℕ) → length labels < start + pixels t → (a : MosaicAnswer) → answer_of a ≡ refused (past_number t)
+  pub tiled_past : (start : ℕ) → length labels < start + pixels t → (a : Result Counts Refused) → answer_of a ≡ refused (past_number t)
       → Tiled (single t start labels work (both drop (used p) s)) (both take (used p) s) work s a
   unfolding past
   tiled_past start h a e =
@@ -137,10 +139,10 @@ module _ (t : Size) (labels work : List ℕ) (s : Stores) (p : Places) where
       }
 
   -- and one that the single call was made for
-  pub tiled_call : (start : ℕ) → p.labels ≡ start → (size : ℕ) → size ≡ pixels t → start + size ≤ length labels
-      → (work' : List ℕ) (ys : Stores) (a : MosaicAnswer)
+  pub tiled_call : (start k : ℕ) → k ≡ start → (size : ℕ) → size ≡ pixels t → start + size ≤ length labels
+      → (work' : List ℕ) (ys : Stores) (a : Result Counts Refused)
       → outcome a (work' ∷ ys.nodes ∷ ys.segments ∷ ys.points ∷ ys.references ∷ ys.contours ∷ ys.faces ∷ [])
-      ≡ whole (map_of t (take ((p.labels + size) - p.labels) (drop p.labels labels))) work
+      ≡ whole (map_of t (take ((k + size) - k) (drop k labels))) work
       (rest p.nodes s.nodes) (rest p.segments s.segments) (rest p.points s.points) (rest p.references s.references) (rest p.contours s.contours) (rest p.faces s.faces)
       → Tiled (single t start labels work (both drop (used p) s)) (both take (used p) s) work'
       (record {
@@ -152,8 +154,8 @@ module _ (t : Size) (labels work : List ℕ) (s : Stores) (p : Places) where
         faces = back p.faces s.faces ys.faces;
       }) a
   unfolding call
-  tiled_call start at size many fits work' ys a e =
-      let count : (p.labels + size) - p.labels ≡ pixels t = omega (arith, many) in
+  tiled_call start k at size many fits work' ys a e =
+      let count : (k + size) - k ≡ pixels t = omega (arith, many) in
       let lent : outcome a (work' ∷ ys.nodes ∷ ys.segments ∷ ys.points ∷ ys.references ∷ ys.contours ∷ ys.faces ∷ []) ≡ single t start labels work (both drop (used p) s) =
       e ∙ (λ i. whole (map_of t (take (count i) (drop (at i) labels))) work
       (rest_is p.nodes s.nodes i) (rest_is p.segments s.segments i) (rest_is p.points s.points i) (rest_is p.references s.references i) (rest_is p.contours s.contours i) (rest_is p.faces s.faces i))

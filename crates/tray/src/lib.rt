@@ -2,19 +2,18 @@
 #![tactic(auto)]
 
 ghost use Rattle.std.specs.Prelude.{◌≡◌, ◌+◌, ◌*◌, ◌≤◌, length};
-ghost use Rattle.std.proofs.lemmas.List.Edits.{sets};
-ghost use Rattle.calls.specs.Outcome.{answer_of};
-ghost use Rattle.tray.specs.Tray.{past_number, words, tray as tray_of};
-ghost use Rattle.tray.specs.Steps.{stores_with, afterwards, Inside, Tiles, LabelsPassed, Fits, RecordsPassed};
+ghost use Rattle.rules.specs.Refusals.{number_of, number_in};
+ghost use Rattle.tray.specs.Tray.{past_number, tray as tray_of};
+ghost use Rattle.tray.specs.Steps.{stores_with, afterwards, LabelsWithin, Inside, Tiles, LabelsPassed, Fits, RecordsPassed};
 
-use calls::Answer;
+use calls::{Counts, Refused};
 use lattice::Size;
+use rules::Refusal;
 
-// How many labels are taken, and whether a part ran past the label store; then the words of each store that hold records.
+// Where the next map's labels start, or none behind a part that ran past the label store; then the words of each store that hold records.
 #[derive(Clone, Copy)]
 struct Places {
-    labels: usize,
-    past: bool,
+    labels: Option<usize>,
     nodes: usize,
     segments: usize,
     points: usize,
@@ -32,17 +31,14 @@ pub fn pixels(s: Size) -> usize
     (s.width as usize) * (s.height as usize)
 }
 
-// Its number when its label part runs past the store.
-fn past_number(s: Size) -> u32
-    ensures { result ≡ past_number s }
+// Why it is refused when its label part runs past the store.
+fn past_store(s: Size) -> Refusal
+    ensures { number_of result ≡ past_number s }
 {
-    if 16384 < s.width {
-        return 1;
+    if 16384 < s.width || 16384 < s.height {
+        return Refusal::LongSide;
     }
-    if 16384 < s.height {
-        return 1;
-    }
-    2
+    Refusal::LabelCount
 }
 
 // The single call, with what is left.
@@ -57,18 +53,17 @@ fn one(
     references: &mut [u32],
     contours: &mut [u32],
     faces: &mut [u32],
-) -> Answer
-    requires fact_1 { p.labels ≤ length labels.now }
-    requires fact_2 { Inside p (stores_with nodes.old segments.old points.old references.old contours.old faces.old) }
+) -> Result<Counts, Refused>
+    requires labels { LabelsWithin (length labels.now) p }
+    requires stores { Inside p (stores_with nodes.old segments.old points.old references.old contours.old faces.old) }
     ensures { Tiles s labels.now p work.old (stores_with nodes.old segments.old points.old references.old contours.old faces.old) work.new (stores_with nodes.new segments.new points.new references.new contours.new faces.new) result }
 {
-    if p.past {
-        return calls::refuse(past_number(s));
-    }
-    let start = p.labels;
+    let Some(start) = p.labels else {
+        return Err(Refused::from(past_store(s)));
+    };
     let size = pixels(s);
     if labels.len() - start < size {
-        return calls::refuse(past_number(s));
+        return Err(Refused::from(past_store(s)));
     }
     let end = start + size;
     let a = p.nodes;
@@ -92,53 +87,43 @@ fn one(
 
 // The places behind its labels, of `held` in all.
 fn past_labels(p: Places, size: usize, held: usize) -> Places
-    requires { p.labels ≤ held }
+    requires { LabelsWithin held p }
     ensures { LabelsPassed p size held result }
 {
-    if p.past {
+    let Some(start) = p.labels else {
         return p;
+    };
+    if held - start < size {
+        return Places { labels: None, ..p };
     }
-    let mut next = p;
-    if held - p.labels < size {
-        next.past = true;
-        return next;
+    Places {
+        labels: Some(start + size),
+        ..p
     }
-    next.labels = p.labels + size;
-    next
 }
 
 // The places behind its records.
-fn past_records(p: Places, a: Answer) -> Places
-    requires { Fits p a }
-    ensures { RecordsPassed p a result }
+fn past_records(p: Places, answer: Result<Counts, Refused>) -> Places
+    requires { Fits p answer }
+    ensures { RecordsPassed p answer result }
 {
-    if a.number != 0 {
+    let Ok(c) = answer else {
         return p;
-    }
+    };
     Places {
-        labels: p.labels,
-        past: p.past,
-        nodes: p.nodes + 6 * (a.nodes as usize),
-        segments: p.segments + 8 * (a.segments as usize),
-        points: p.points + 2 * (a.points as usize),
-        references: p.references + (a.references as usize),
-        contours: p.contours + 2 * (a.contours as usize),
-        faces: p.faces + 5 * (a.faces as usize),
+        nodes: p.nodes + 6 * (c.nodes as usize),
+        segments: p.segments + 8 * (c.segments as usize),
+        points: p.points + 2 * (c.points as usize),
+        references: p.references + (c.references as usize),
+        contours: p.contours + 2 * (c.contours as usize),
+        faces: p.faces + 5 * (c.faces as usize),
+        ..p
     }
-}
-
-// Its eight answer words, from `at` on.
-fn put_answer(answers: &mut [u32], at: usize, a: Answer)
-    requires { at + 8 ≤ length answers.old }
-    ensures { answers.new ≡ sets answers.old at (words (answer_of a)) }
-{
-    store::put4(answers, at, a.number, a.nodes, a.segments, a.points);
-    store::put4(answers, at + 4, a.references, a.contours, a.faces, a.steps);
 }
 
 // THE TRAY
 
-// Three words for each map, in one mode; the answer is 18 or 0.
+// Three words for each map, in one mode; refused only for too few answer words.
 pub fn tray(
     mode: u32,
     maps: &[u32],
@@ -151,16 +136,15 @@ pub fn tray(
     contours: &mut [u32],
     faces: &mut [u32],
     answers: &mut [u32],
-) -> u32
-    ensures { afterwards result work.new (stores_with nodes.new segments.new points.new references.new contours.new faces.new) answers.new ≡ tray_of mode maps.now labels.now work.old (stores_with nodes.old segments.old points.old references.old contours.old faces.old) answers.old }
+) -> Result<(), Refusal>
+    ensures { afterwards (number_in result) work.new (stores_with nodes.new segments.new points.new references.new contours.new faces.new) answers.new ≡ tray_of mode maps.now labels.now work.old (stores_with nodes.old segments.old points.old references.old contours.old faces.old) answers.old }
 {
     let count = maps.len() / 3;
     if answers.len() / 8 < count {
-        return 18;
+        return Err(Refusal::ShortAnswers);
     }
     let mut p = Places {
-        labels: 0,
-        past: false,
+        labels: Some(0),
         nodes: 0,
         segments: 0,
         points: 0,
@@ -168,20 +152,18 @@ pub fn tray(
         contours: 0,
         faces: 0,
     };
-    let mut i: usize = 0;
-    while i < count {
+    for i in 0..count {
         let s = calls::sized(
             mode,
             store::at(maps, 3 * i),
             store::at(maps, 3 * i + 1),
             store::at(maps, 3 * i + 2),
         );
-        let a = one(
+        let answer = one(
             s, p, labels, work, nodes, segments, points, references, contours, faces,
         );
-        put_answer(answers, 8 * i, a);
-        p = past_records(past_labels(p, pixels(s), labels.len()), a);
-        i += 1;
+        store::put_all(answers, 8 * i, calls::words(answer));
+        p = past_records(past_labels(p, pixels(s), labels.len()), answer);
     }
-    0
+    Ok(())
 }

@@ -2,316 +2,224 @@
 // answer word too few, and how many words of each store differ.
 #![tactic(auto)]
 
-ghost use Rattle.std.specs.Prelude.{◌≤◌};
-
-use calls::Answer;
+use calls::{Counts, Refused};
+use lattice::{OUTSIDE, Size};
 use std::io;
 
-// The words of each store that are used, and the labels that are taken.
-#[derive(Clone, Copy)]
-struct Places {
-    labels: usize,
-    nodes: usize,
-    segments: usize,
-    points: usize,
-    references: usize,
-    contours: usize,
-    faces: usize,
-}
+// MAPS
 
-fn least(a: usize, b: usize) -> usize
-    ensures { result ≤ b }
-{
-    if a < b { a } else { b }
-}
-
-fn say(rt: &impl Print, text: &[u8]) -> io::Result<()> {
-    rt.write_all(text)
-}
-
-fn number(rt: &impl Print, n: u32) -> io::Result<()> {
-    print!(rt; " {n}")
-}
-
-fn one_if_other(a: u32, b: u32) -> u32 {
-    if a == b { 0 } else { 1 }
-}
-
-fn numbers(rt: &impl Print, words: &[u32]) -> io::Result<()> {
-    for word in words {
-        number(rt, *word)?;
-    }
-    Ok(())
-}
-
-// How many words of xs are others in ys.
-fn differ(xs: &[u32], ys: &[u32]) -> u32 {
-    let mut count: u32 = 0;
-    for (i, x) in xs.iter().enumerate() {
-        count = count.wrapping_add(one_if_other(*x, store::get(ys, i)));
-    }
-    count
-}
-
-// Forty maps with sides of 1 to 4 and 0 to 2 pixels, and 0 to 4 paints.
-fn lay_maps(maps: &mut [u32]) {
-    for i in 0..40u32 {
-        let at = 3 * (i as usize);
-        store::put(maps, at, 1 + i % 4);
-        store::put(maps, at + 1, i % 3);
-        store::put(maps, at + 2, i % 5);
+// Maps with sides of 1 to 4 and 0 to 2 pixels, and 0 to 4 paints, and three others.
+fn map(i: u8) -> [u32; 3] {
+    let n = u32::from(i);
+    match i {
+        // too wide
+        7 => [16385, 0, 2],
+        // too large for the work store
+        13 => [9, 1, 3],
+        // past the label store, as the one before it
+        39 => [4, 1, 4],
+        _ => [1 + n % 4, n % 3, n % 5],
     }
 }
 
-fn label(n: u32) -> u32 {
-    if n % 7 == 6 {
-        return lattice::OUTSIDE;
-    }
-    n % 7 / 2
-}
-
-fn lay_labels(labels: &mut [u32]) {
-    for i in 0..200u32 {
-        store::put(labels, i as usize, label(5 * i + i / 3));
+fn label(i: u8) -> u32 {
+    let n = u32::from(i);
+    match (5 * n + n / 3) % 7 {
+        6 => OUTSIDE,
+        k => k / 2,
     }
 }
 
-// The place behind a call's records, of so many words; the same place when it refused.
-fn behind(at: usize, a: Answer, words: usize) -> usize {
-    if a.number != 0 {
-        return at;
-    }
-    at.wrapping_add(words)
+// SINGLE CALLS
+
+// What is left of each store for the maps to come.
+#[derive(Drop)]
+struct Left<'a> {
+    labels: &'a [u32],
+    nodes: &'a mut [u32],
+    segments: &'a mut [u32],
+    points: &'a mut [u32],
+    references: &'a mut [u32],
+    contours: &'a mut [u32],
+    faces: &'a mut [u32],
 }
 
-fn put_answer(answers: &mut [u32], at: usize, a: Answer) {
-    store::put4(answers, at, a.number, a.nodes, a.segments, a.points);
-    store::put4(
-        answers,
-        at.wrapping_add(4),
-        a.references,
-        a.contours,
-        a.faces,
-        a.steps,
-    );
-}
-
-// One map by a single call on its own labels, with the rest of each store.
-fn single(
-    s: lattice::Size,
-    p: Places,
-    labels: &[u32],
-    work: &mut [u32],
-    nodes: &mut [u32],
-    segments: &mut [u32],
-    points: &mut [u32],
-    references: &mut [u32],
-    contours: &mut [u32],
-    faces: &mut [u32],
-) -> Answer {
-    let start = least(p.labels, labels.len());
-    let size = least(tray::pixels(s), labels.len() - start);
-    let end = start + size;
-    let a = least(p.nodes, nodes.len());
-    let b = least(p.segments, segments.len());
-    let c = least(p.points, points.len());
-    let d = least(p.references, references.len());
-    let e = least(p.contours, contours.len());
-    let f = least(p.faces, faces.len());
-    calls::whole(
-        s,
-        &labels[start..end],
-        work,
-        &mut nodes[a..],
-        &mut segments[b..],
-        &mut points[c..],
-        &mut references[d..],
-        &mut contours[e..],
-        &mut faces[f..],
-    )
-}
-
-// The places behind a map's labels and records.
-fn next(p: Places, s: lattice::Size, a: Answer) -> Places {
-    Places {
-        labels: p.labels.wrapping_add(tray::pixels(s)),
-        nodes: behind(p.nodes, a, 6 * (a.nodes as usize)),
-        segments: behind(p.segments, a, 8 * (a.segments as usize)),
-        points: behind(p.points, a, 2 * (a.points as usize)),
-        references: behind(p.references, a, a.references as usize),
-        contours: behind(p.contours, a, 2 * (a.contours as usize)),
-        faces: behind(p.faces, a, 5 * (a.faces as usize)),
+impl Left<'_> {
+    // The next map by a call on its own labels, which takes them and what it writes.
+    fn single(&mut self, s: Size, work: &mut [u32]) -> Result<Counts, Refused> {
+        let pixels = tray::pixels(s).min(self.labels.len());
+        let (labels, others) = self.labels.split_at(pixels);
+        self.labels = others;
+        let answer = calls::whole(
+            s,
+            labels,
+            work,
+            self.nodes,
+            self.segments,
+            self.points,
+            self.references,
+            self.contours,
+            self.faces,
+        );
+        if let Ok(c) = answer {
+            let _ = self.nodes.split_off_mut(..6 * c.nodes as usize);
+            let _ = self.segments.split_off_mut(..8 * c.segments as usize);
+            let _ = self.points.split_off_mut(..2 * c.points as usize);
+            let _ = self.references.split_off_mut(..c.references as usize);
+            let _ = self.contours.split_off_mut(..2 * c.contours as usize);
+            let _ = self.faces.split_off_mut(..5 * c.faces as usize);
+        }
+        answer
     }
 }
 
-// Map after map by single calls.
-fn one_by_one(
-    rt: &impl Print,
-    maps: &[u32],
-    labels: &[u32],
-    work: &mut [u32],
-    nodes: &mut [u32],
-    segments: &mut [u32],
-    points: &mut [u32],
-    references: &mut [u32],
-    contours: &mut [u32],
-    faces: &mut [u32],
-    answers: &mut [u32],
-) -> io::Result<()> {
-    let mut p = Places {
-        labels: 0,
-        nodes: 0,
-        segments: 0,
-        points: 0,
-        references: 0,
-        contours: 0,
-        faces: 0,
-    };
-    for i in 0..40usize {
-        let s = calls::sized(
+// STORES
+
+// The stores of forty maps.
+#[derive(Drop)]
+struct Stores {
+    work: [u32; 150],
+    nodes: [u32; 600],
+    segments: [u32; 1200],
+    points: [u32; 300],
+    references: [u32; 200],
+    contours: [u32; 150],
+    faces: [u32; 250],
+}
+
+// How many words of a store are others than those of another.
+fn differ(xs: &[u32], ys: &[u32]) -> usize {
+    xs.iter().zip(ys).filter(|(x, y)| **x != **y).count()
+}
+
+impl Stores {
+    fn new() -> Stores {
+        Stores {
+            work: [9; 150],
+            nodes: [9; 600],
+            segments: [9; 1200],
+            points: [9; 300],
+            references: [9; 200],
+            contours: [9; 150],
+            faces: [9; 250],
+        }
+    }
+
+    // Map after map by single calls, and the number of each.
+    fn one_by_one(
+        &mut self,
+        rt: &impl Print,
+        maps: &[u32],
+        labels: &[u32],
+        answers: &mut [u32],
+    ) -> io::Result<()> {
+        let mut left = Left {
+            labels,
+            nodes: &mut self.nodes,
+            segments: &mut self.segments,
+            points: &mut self.points,
+            references: &mut self.references,
+            contours: &mut self.contours,
+            faces: &mut self.faces,
+        };
+        let (maps, _) = maps.as_chunks::<3>();
+        let (answers, _) = answers.as_chunks_mut::<8>();
+        for ([width, height, paints], answer) in maps.iter().zip(answers) {
+            let s = calls::sized(1, *width, *height, *paints);
+            *answer = calls::words(left.single(s, &mut self.work));
+            print!(rt; " {}", answer[0])?;
+        }
+        println!(rt)
+    }
+
+    // The maps in one tray, and its number.
+    fn tray(&mut self, maps: &[u32], labels: &[u32], answers: &mut [u32]) -> u32 {
+        let laid = tray::tray(
             1,
-            store::get(maps, 3 * i),
-            store::get(maps, 3 * i + 1),
-            store::get(maps, 3 * i + 2),
+            maps,
+            labels,
+            &mut self.work,
+            &mut self.nodes,
+            &mut self.segments,
+            &mut self.points,
+            &mut self.references,
+            &mut self.contours,
+            &mut self.faces,
+            answers,
         );
-        let a = single(
-            s, p, labels, work, nodes, segments, points, references, contours, faces,
-        );
-        put_answer(answers, 8 * i, a);
-        number(rt, a.number)?;
-        p = next(p, s, a);
+        match laid {
+            Ok(()) => 0,
+            Err(why) => why.number(),
+        }
     }
-    Ok(())
+
+    // How many words of each store differ.
+    fn differences(&self, other: &Stores) -> [usize; 7] {
+        [
+            differ(&self.work, &other.work),
+            differ(&self.nodes, &other.nodes),
+            differ(&self.segments, &other.segments),
+            differ(&self.points, &other.points),
+            differ(&self.references, &other.references),
+            differ(&self.contours, &other.contours),
+            differ(&self.faces, &other.faces),
+        ]
+    }
 }
 
-// One that is too wide, one that the work store is too short for, and at the end two whose labels run past the store.
-fn refused_between(maps: &mut [u32]) {
-    store::put(maps, 21, 16385);
-    store::put(maps, 22, 0);
-    store::put(maps, 39, 9);
-    store::put(maps, 118, 1);
-}
-
-// An answer word too few: the number, and how many words changed.
-fn too_few(rt: &impl Print, maps: &[u32], labels: &[u32]) -> io::Result<()> {
-    let mut stores = [9u32; 150];
-    let mut nodes = [0u32; 0];
-    let mut segments = [0u32; 0];
-    let mut points = [0u32; 0];
-    let mut references = [0u32; 0];
-    let mut contours = [0u32; 0];
-    let mut faces = [0u32; 0];
-    let mut answers = [9u32; 319];
-    let number_18 = tray::tray(
-        1,
-        maps,
-        labels,
-        &mut stores,
-        &mut nodes,
-        &mut segments,
-        &mut points,
-        &mut references,
-        &mut contours,
-        &mut faces,
-        &mut answers,
-    );
-    say(rt, b"\n319 answer words:")?;
-    number(rt, number_18)?;
-    number(rt, differ(&stores, &[9u32; 150]))?;
-    number(rt, differ(&answers, &[9u32; 319]))
-}
-
-// The tray over stores of its own, and how many words are others than the single calls left.
-fn compare(
-    rt: &impl Print,
-    maps: &[u32],
-    labels: &[u32],
-    work_1: &[u32],
-    nodes_1: &[u32],
-    segments_1: &[u32],
-    points_1: &[u32],
-    references_1: &[u32],
-    contours_1: &[u32],
-    faces_1: &[u32],
-    answers_1: &[u32],
-) -> io::Result<()> {
-    let mut work = [9u32; 150];
-    let mut nodes = [9u32; 600];
-    let mut segments = [9u32; 1200];
-    let mut points = [9u32; 300];
-    let mut references = [9u32; 200];
-    let mut contours = [9u32; 150];
-    let mut faces = [9u32; 250];
-    let mut answers = [9u32; 325];
-    let answered = tray::tray(
+// The tray with an answer word too few, and a work store beside stores that hold nothing.
+fn refused(rt: &impl Print, maps: &[u32], labels: &[u32]) -> io::Result<()> {
+    let mut work = [9; 150];
+    let mut answers = [9; 319];
+    let laid = tray::tray(
         1,
         maps,
         labels,
         &mut work,
-        &mut nodes,
-        &mut segments,
-        &mut points,
-        &mut references,
-        &mut contours,
-        &mut faces,
+        &mut [0; 0],
+        &mut [0; 0],
+        &mut [0; 0],
+        &mut [0; 0],
+        &mut [0; 0],
+        &mut [0; 0],
         &mut answers,
     );
-    let different = [
-        differ(&answers, answers_1),
-        differ(&work, work_1),
-        differ(&nodes, nodes_1),
-        differ(&segments, segments_1),
-        differ(&points, points_1),
-        differ(&references, references_1),
-        differ(&contours, contours_1),
-        differ(&faces, faces_1),
-    ];
-    say(rt, b"\na tray:")?;
-    number(rt, answered)?;
-    say(rt, b"\nwords that differ:")?;
-    numbers(rt, &different)?;
-    say(rt, b"\n")
+    let number = match laid {
+        Ok(()) => 0,
+        Err(why) => why.number(),
+    };
+    let words = differ(&work, &[9; 150]);
+    println!(rt;
+        "319 answer words: {number} {words} {}",
+        differ(&answers, &[9; 319])
+    )
 }
 
 fn main(rt: HostRuntime) -> io::Result<()> {
-    let mut maps = [9u32; 122];
-    let mut labels = [0u32; 97];
-    lay_maps(&mut maps);
-    refused_between(&mut maps);
-    lay_labels(&mut labels);
-    let mut work = [9u32; 150];
-    let mut nodes = [9u32; 600];
-    let mut segments = [9u32; 1200];
-    let mut points = [9u32; 300];
-    let mut references = [9u32; 200];
-    let mut contours = [9u32; 150];
-    let mut faces = [9u32; 250];
-    let mut answers = [9u32; 325];
-    one_by_one(
-        &rt,
-        &maps,
-        &labels,
-        &mut work,
-        &mut nodes,
-        &mut segments,
-        &mut points,
-        &mut references,
-        &mut contours,
-        &mut faces,
-        &mut answers,
-    )?;
-    too_few(&rt, &maps, &labels)?;
-    compare(
-        &rt,
-        &maps,
-        &labels,
-        &work,
-        &nodes,
-        &segments,
-        &points,
-        &references,
-        &contours,
-        &faces,
-        &answers,
-    )
+    // two words that are no map's
+    let mut maps = [9; 122];
+    let (words, _) = maps.as_chunks_mut::<3>();
+    for (word, i) in words.iter_mut().zip(0..40) {
+        *word = map(i);
+    }
+    let mut labels = [0; 97];
+    for (word, i) in labels.iter_mut().zip(0..97) {
+        *word = label(i);
+    }
+
+    let mut single = Stores::new();
+    let mut answers = [9; 325];
+    single.one_by_one(&rt, &maps, &labels, &mut answers)?;
+
+    refused(&rt, &maps, &labels)?;
+
+    let mut together = Stores::new();
+    let mut tray_answers = [9; 325];
+    let number = together.tray(&maps, &labels, &mut tray_answers);
+    let words = differ(&tray_answers, &answers);
+    print!(rt; "a tray: {number}\nwords that differ: {words}")?;
+    for words in together.differences(&single) {
+        print!(rt; " {words}")?;
+    }
+    println!(rt)
 }

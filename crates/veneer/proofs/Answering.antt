@@ -13,7 +13,7 @@ use borrow.Author.Tests.{ltb-false, ne_eqb}
 use Rattle.rules.specs.Picture.{Picture, OUTSIDE}
 use Rattle.rules.specs.Graph.{segments}
 use Rattle.rules.specs.Face.{islands, contours, face, faces}
-use Rattle.rules.specs.Calls.{Map, Accepted, cut_list, refused, Check, first_hit, call}
+use Rattle.rules.specs.Calls.{Map, Accepted, cut_list, Check, first_hit, call}
 use Rattle.rules.proofs.Ground.Lists.{at_map}
 use Rattle.rules.proofs.Ground.Pigeonhole.{rearranged_length}
 use Rattle.rules.proofs.Tracing.Partition.{describes}
@@ -32,13 +32,18 @@ use Rattle.face.specs.declared.Counts.{Counts as FaceCounts}
 use Rattle.face.specs.declared.contours.Found.{Found}
 use Rattle.face.specs.Islands.{Numbered, plan}
 use Rattle.face.specs.Counts.{Counted}
-use Rattle.calls.specs.declared.Answer.{Answer}
-use Rattle.calls.specs.Outcome.{map_of, answer_of, with_faces, with_number}
+use Rattle.std.specs.Prelude.{Result, Err}
+use Rattle.rules.specs.declared.Refusal.{Refusal}
+use Rattle.rules.specs.Refusals.{number_of, number_in}
+use Rattle.calls.specs.declared.Counts.{Counts as AnswerCounts}
+use Rattle.calls.specs.declared.Refused.{Refused}
+use Rattle.calls.proofs.Refusals.{positive}
+use Rattle.calls.specs.Outcome.{map_of, with_faces, unlooked, answered_by}
 use Rattle.calls.specs.Steps.{GraphCounted, CountsGraph}
 use Rattle.calls.proofs.Outcomes.{first, number_early}
 use Rattle.calls.proofs.Settled.{number_is}
 use Rattle.calls.proofs.Steps.{all_counted}
-use Rattle.calls.proofs.Calls.{call_refused, call_answered}
+use Rattle.calls.proofs.Calls.{answered_number, call_refused, call_answered}
 use Rattle.veneer.specs.Sums.{face_sum, sums, sums_after, veneer}
 use Rattle.veneer.specs.Steps.{firsts_of, Pixels, MeasuresFaces, Answered, measured_as}
 use Rattle.veneer.proofs.Pieces.{sums_pixels}
@@ -104,40 +109,46 @@ module _ (s : Size) (ls : List ℕ) where
 
   -- THE ANSWER
   module _ (M : LabelledMap s ls) (b : s.paints ≤ OUTSIDE) {work work₁ : List ℕ} {r : ℕ} (i : Numbered (plan s) s.paints ls work r work₁) {c : Counts} (g : GraphCounted s ls work c)
-      (numbers : List ℤ) {n : ℕ} (e : n ≡ first_hit (record { number = 9; hits = ltb (length numbers) r } ∷ [])) where
+      (numbers : List ℤ) (room : Result (Unit {0}) Refusal) (e : number_in room ≡ first_hit (record { number = 9; hits = ltb (length numbers) r } ∷ [])) where
     faces_are : r ≡ length (sums m)
     faces_are = i.painted ∙ sym firsts_count ∙ sym sums_count
 
-    its_number : n ≡ first_hit (record { number = 9; hits = ltb (length numbers) (length (sums m)) } ∷ [])
+    its_number : number_in room ≡ first_hit (record { number = 9; hits = ltb (length numbers) (length (sums m)) } ∷ [])
     its_number = e ∙ ap (λ j. first_hit (record { number = 9; hits = ltb (length numbers) j } ∷ [])) faces_are
 
     kept₁ : Kept 0 (8 * plane s.width s.height) work work₁
     kept₁ = kept_within (omega arith) (omega (arith, plane_is s.width s.height)) i.kept
 
-    pub too_few : {work₂ : List ℕ} {f : FaceCounts} → (n ≡ 0 → ⊥) → Counted s ls work₁ f work₂ → Answered s ls work numbers work₂ numbers (with_number n (with_faces c f))
-    too_few z k = record {
+    pub too_few : {work₂ : List ℕ} {f : FaceCounts} → (number_in room ≡ 0 → ⊥) → Counted s ls work₁ f work₂ → Answered s ls work numbers work₂ numbers (answered_by room (with_faces c f))
+    too_few {work₂} {f} z k = record {
+      room = room;
+      counts = with_faces c f;
+      answer = refl;
       number = its_number;
-      counts = all_counted g (k.counts (segments P) (describes (framed s ls)));
-      sums = left_alone n (sums m) numbers z;
+      counted_all = all_counted g (k.counts (segments P) (describes (framed s ls)));
+      sums = left_alone (number_in room) (sums m) numbers z;
       kept = kept_then kept₁ (kept_within (omega arith) (omega arith) k.kept);
     }
 
-    pub enough_room : n ≡ 0 → length fp ≤ length numbers
+    pub enough_room : number_in room ≡ 0 → length fp ≤ length numbers
     enough_room z = omega (arith, roomy (length numbers) r (sym e ∙ z), faces_are, sums_count)
 
-    pub summed : {work₂ : List ℕ} {numbers₂ : List ℤ} {f : Found} → n ≡ 0 → MeasuresFaces s ls work₁ numbers work₂ numbers₂ f
-        → Answered s ls work numbers work₂ numbers₂ (with_faces c (record { references = f.references; contours = f.contours; faces = r }))
-    summed z k =
+    pub summed : {work₂ : List ℕ} {numbers₂ : List ℤ} {f : Found} → number_in room ≡ 0 → MeasuresFaces s ls work₁ numbers work₂ numbers₂ f
+        → Answered s ls work numbers work₂ numbers₂ (answered_by room (with_faces c (record { references = f.references; contours = f.contours; faces = r })))
+    summed {work₂} {numbers₂} {f} z k =
         let F = framed s ls in
         let D = describes F in
         record {
-          number = sym z ∙ its_number;
-          counts = all_counted g (record {
+          room = room;
+          counts = with_faces c (record { references = f.references; contours = f.contours; faces = r });
+          answer = refl;
+          number = its_number;
+          counted_all = all_counted g (record {
             references = k.total (segments P) D ∙ sym (references_count F D b);
             contours = k.count (segments P) D ∙ sym (contours_count F D b);
             faces = i.painted ∙ sym (faces_count P (segments P) s.paints);
           });
-          sums = written (record { wide = M.wide; tall = M.high; size = M.count; word = b }) k.pixels (enough_room z);
+          sums = written (record { wide = M.wide; tall = M.high; size = M.count; word = b }) k.pixels (enough_room z) ∙ ap (λ n. sums_after n (sums m) numbers) (sym z);
           kept = kept_then kept₁ k.kept;
         }
 
@@ -146,17 +157,18 @@ module _ (s : Size) (ls : List ℕ) where
     abbrev more : List Check
     more = record { number = 9; hits = ltb (length numbers) (length (sums m)) } ∷ []
 
-    pub refused_call : (a : Answer) → (first m work ≡ 0 → ⊥) → answer_of a ≡ refused (first m work) → measured_as a work numbers ≡ veneer m work numbers
+    pub refused_call : (why : Refusal) → number_of why ≡ first m work → measured_as (Err (unlooked why)) work numbers ≡ veneer m work numbers
     unfolding veneer
-    refused_call a n e =
-        let o = call_refused s ls work (cut_list m) more [] a n e in
+    refused_call why e =
+        let n : first m work ≡ 0 → ⊥ = λ z. let h = positive why in omega (arith, h, e, z) in
+        let o = call_refused s ls work (cut_list m) more [] why e in
         let left = left_alone (call m (cut_list m) work more []).answer.number (sums m) numbers (λ z. n (sym (number_early m work more n) ∙ sym (number_is m (cut_list m) work more []) ∙ z)) in
         λ i. record { outcome = o i; sums = left i }
 
-    pub answered_call : (a : Answer) (work₁ work₂ work₃ : List ℕ) (numbers' : List ℤ) (c : Counts) → first m work ≡ 0 → CountsGraph s ls work work₁ c → Answered s ls work₁ numbers work₂ numbers' a
-        → work₃ ≡ sets work₂ 0 (replicate (8 * plane s.width s.height) 0) → measured_as a work₃ numbers' ≡ veneer m work numbers
+    pub answered_call : (r : Result AnswerCounts Refused) (work₁ work₂ work₃ : List ℕ) (numbers' : List ℤ) (c : Counts) → first m work ≡ 0 → CountsGraph s ls work work₁ c → Answered s ls work₁ numbers work₂ numbers' r
+        → work₃ ≡ sets work₂ 0 (replicate (8 * plane s.width s.height) 0) → measured_as r work₃ numbers' ≡ veneer m work numbers
     unfolding veneer
-    answered_call a work₁ work₂ work₃ numbers' c z g k f =
-        let o = call_answered s ls work (cut_list m) more [] a.number (with_number 0 a) work₂ work₃ [] z (omega arith, tt) k.number k.counts (kept_then g.1 k.kept) f refl in
-        let stored = k.sums ∙ ap (λ n. sums_after n (sums m) numbers) (ap (λ o. o.answer.number) o) in
-        λ i. record { outcome = o i; sums = stored i }
+    answered_call r work₁ work₂ work₃ numbers' c z g k f =
+        let o = call_answered s ls work (cut_list m) more [] k.room k.counts work₂ work₃ [] z (omega arith, tt) k.number k.counted_all (kept_then g.1 k.kept) f refl in
+        let stored = k.sums ∙ ap (λ n. sums_after n (sums m) numbers) (ap (λ a. a.number) (sym (answered_number k.room k.counts)) ∙ ap (λ o. o.answer.number) o) in
+        rw k.answer (λ i. record { outcome = o i; sums = stored i })

@@ -11,7 +11,9 @@ use native.Mathlib.Omega.{arith}
 use lib.ListN.{length}
 use borrow.Author.Tests.{not-true}
 use Rattle.rules.specs.Lists.{keep, Distinct, among}
-use Rattle.rules.specs.Picture.{Picture, OUTSIDE, Dir, N, E, S, W, same_dir, Dart, dart}
+use Rattle.rules.specs.Picture.{Picture, OUTSIDE, same_dir, Dart, dart}
+use Rattle.rules.specs.declared.Dir.{Dir}
+use Rattle.rules.specs.declared.Dir.TheVariants.{N, E, S, W}
 use Rattle.rules.specs.Face.{label_of, beside}
 use Rattle.rules.proofs.Islands.Members.{pixels_of, own, IsSide}
 use Rattle.rules.proofs.Ground.Lists.{keep_in, in_keep, keep_distinct, among_in, in_among, not_among, none_among, map_distinct}

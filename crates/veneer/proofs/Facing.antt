@@ -71,14 +71,14 @@ module _ {s : Size} {ls : List ℕ} (M : Map s ls) (b : s.paints ≤ OUTSIDE) (w
     listed₁ : part work₁ (6 * C) m ≡ islands P s.paints
     listed₁ = l.listed ∙ island_leaders M b (5 * C) work₀ isles
 
-    pub unsorted : Unsorted (6 * C) (7 * C) m work₁
+    pub unsorted : Unsorted (6 * C) m work₁
     unsorted = record {
-      two = record { apart = omega (arith, few, pixels_in); room = omega (arith, few, pixels_in, room, l.changed.long) };
+      room = omega (arith, few, pixels_in, room, l.changed.long);
       once = rw listed₁ (firsts_all P s.paints).second;
     }
 
     -- IN ORDER
-    module _ {work₂ : List ℕ} (o : InOrder ls (6 * C) (7 * C) m work₁ work₂) where
+    module _ {work₂ : List ℕ} (o : InOrder ls (6 * C) m work₁ work₂) where
       listed₂ : part work₂ (6 * C) m ≡ fp
       listed₂ = sort_firsts P s.paints o listed₁ (λ p i. own_label p (first_in_lem P s.paints p ((firsts_all P s.paints).onto p i)))
 
@@ -93,17 +93,17 @@ module _ {s : Size} {ls : List ℕ} (M : Map s ls) (b : s.paints ≤ OUTSIDE) (w
       on_at k h = (first_in_lem P s.paints (get_or fp k 0) (in_at fp k 0 (omega (arith, count)))).on
 
       long₂ : length work₂ ≡ length work₀
-      long₂ = o.long ∙ l.changed.long
+      long₂ = o.kept.long ∙ l.changed.long
 
       isles₂ : (q : ℕ) → q < s.width * s.height → get_or work₂ (5 * C + q) 0 ≡ get_or work₀ (5 * C + q) 0
       isles₂ q h =
-          o.others (5 * C + q) (inl (omega (arith, h, pixels_in)))
+          o.kept.others (5 * C + q) (inl (omega (arith, h, pixels_in)))
           ∙ l.changed.others (5 * C + q) (inr (omega (arith, M.count, pixels_in))) (inl (omega (arith, h, pixels_in)))
 
       kept₂ : Kept 0 (8 * C) work₀ work₂
       kept₂ = record {
         long = long₂;
-        others = λ i h. ⊎_elim (λ (k : i < 0). absurd (omega arith)) (λ (k : 8 * C ≤ i). o.others i (inr (inr (omega (arith, few, pixels_in, k)))) ∙ l.changed.others i (inr (omega (arith, M.count, pixels_in, k))) (inr (omega (arith, M.count, pixels_in, k)))) h;
+        others = λ i h. ⊎_elim (λ (k : i < 0). absurd (omega arith)) (λ (k : 8 * C ≤ i). o.kept.others i (inr (omega (arith, few, pixels_in, k))) ∙ l.changed.others i (inr (omega (arith, M.count, pixels_in, k))) (inr (omega (arith, M.count, pixels_in, k)))) h;
       }
 
       pub numberable : Numberable (4 * C) (5 * C) (6 * C) m work₂ numbers₀

@@ -18,7 +18,8 @@ use mir.Val.{to_z, of_z}
 use mir.ValLaws.{to_z-of_z}
 use borrow.Author.Tests.{eq-eqb, ne_eqb}
 use Rattle.rules.specs.Lists.{flat, Distinct}
-use Rattle.rules.specs.Picture.{Picture, picture, OUTSIDE, E, Dart, dart, left, crack}
+use Rattle.rules.specs.Picture.{Picture, picture, OUTSIDE, Dart, dart, left, crack}
+use Rattle.rules.specs.declared.Dir.TheVariants.{E}
 use Rattle.rules.specs.Face.{island, no_dart, beside}
 use Rattle.rules.proofs.Ground.Lists.{in_at, in_flat}
 use Rattle.rules.proofs.Lattice.Frame.{Framed}
@@ -118,9 +119,9 @@ module _ {s : Size} {ls : List ℕ} {at x y : ℕ} {work : List ℕ} {numbers : 
 
   -- A LOOP OF ITS OWN
   module _ {l : ℕ} (cracked : crack P a ≡ true) (lefts : left P a ≡ l) (paint : l < s.paints) (k : Corner s x y) (blank : get_or work (at + place s.width x y) 0 ≡ 0)
-      {work' : List ℕ} {r : Round} (d : Rounded s ls at (record { x = x; y = y; d = 1 }) work work' r) where
+      {work' : List ℕ} {r : Round} (d : Rounded s ls at (record { x = x; y = y; d = E }) work work' r) where
     abbrev w : Walker
-    w = record { x = x; y = y; d = 1 }
+    w = record { x = x; y = y; d = E }
 
     abbrev c : List Dart
     c = loop_of P a
@@ -132,7 +133,7 @@ module _ {s : Size} {ls : List ℕ} {at x y : ℕ} {work : List ℕ} {numbers : 
     inside e = omega (arith, lefts, paint, o.word, e)
 
     pub beside_face : Flanked s w
-    beside_face = flanked s ls w M (omega arith) cracked inside
+    beside_face = flanked s ls w M cracked inside
 
     begins : get_or c 0 no_dart ≡ a
     begins = ap (λ (l : List Dart). get_or l 0 no_dart) (the_loop F a cracked).1

@@ -12,7 +12,8 @@ use lib.IntN.{ℤ, pos, ◌+ℤ◌}
 use lib.ListN.{length}
 use borrow.Author.Tests.{eqb-true, eq-eqb}
 use Rattle.rules.specs.Lists.{keep, flat}
-use Rattle.rules.specs.Picture.{Picture, OUTSIDE, E, Dart, dart, left, crack}
+use Rattle.rules.specs.Picture.{Picture, OUTSIDE, Dart, dart, left, crack}
+use Rattle.rules.specs.declared.Dir.TheVariants.{E}
 use Rattle.rules.specs.Face.{label_of, island, turn}
 use Rattle.veneer.specs.Sums.{total, signed}
 use Rattle.veneer.specs.Steps.{share}

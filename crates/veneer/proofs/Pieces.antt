@@ -8,7 +8,9 @@ use lib.IntN.{pos, ◌+ℤ◌, +ℤ_idr, +ℤ_invl}
 use lib.ListN.{length, get_or, length-append}
 use borrow.Author.Tests.{ltb-true, lt-ltb}
 use Rattle.rules.specs.Lists.{flat, Distinct, upto}
-use Rattle.rules.specs.Picture.{Picture, OUTSIDE, Dir, N, E, S, W, Dart}
+use Rattle.rules.specs.Picture.{Picture, OUTSIDE, Dart}
+use Rattle.rules.specs.declared.Dir.{Dir}
+use Rattle.rules.specs.declared.Dir.TheVariants.{N, E, S, W}
 use Rattle.rules.specs.Face.{pixels, label_of, firsts, sides, contours, Face, face, faces}
 use Rattle.rules.specs.Calls.{Map, picture_of, Accepted}
 use Rattle.rules.specs.Graph.{segments}

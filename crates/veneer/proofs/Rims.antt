@@ -8,7 +8,8 @@ use native.Mathlib.Nat.{div-add-mod', suc-mul, add-mod_right}
 use lib.Dec.{eqb}
 use lib.ListN.{get_or}
 use Rattle.rules.specs.Lists.{upto, Distinct}
-use Rattle.rules.specs.Picture.{Picture, OUTSIDE, E, W, Dart, dart, left_at, left, right}
+use Rattle.rules.specs.Picture.{Picture, OUTSIDE, Dart, dart, left_at, left, right}
+use Rattle.rules.specs.declared.Dir.TheVariants.{E, W}
 use Rattle.rules.specs.Face.{pixels, label_of, firsts, beside, beside_at}
 use Rattle.rules.proofs.Ground.Lists.{keep_distinct, upto_distinct}
 use Rattle.rules.proofs.Lattice.Frame.{Framed}

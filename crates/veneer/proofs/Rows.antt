@@ -7,7 +7,8 @@ use native.Mathlib.Omega.{arith}
 use lib.IntN.{ℤ}
 use lib.ListN.{get_or}
 use Rattle.rules.specs.Lists.{flat}
-use Rattle.rules.specs.Picture.{picture, E, dart}
+use Rattle.rules.specs.Picture.{picture, dart}
+use Rattle.rules.specs.declared.Dir.TheVariants.{E}
 use Rattle.rules.proofs.Ground.Lists.{in_at}
 use Rattle.rules.proofs.Lattice.Darts.{crack_y}
 use Rattle.rules.proofs.Contours.Loops.{IsPainted}

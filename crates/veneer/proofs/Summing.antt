@@ -1,6 +1,6 @@
 -- A contour's sum stays far below the ends of a machine word.
-use Prim.Native.Nat.{ℕ, zero, suc, ◌*◌, ◌≤◌, ◌<◌}
-use mathlib.Core.Path.{◌≡◌, refl}
+use Prim.Native.Nat.{ℕ, ◌*◌, ◌≤◌}
+use mathlib.Core.Path.{refl}
 use mathlib.Core.List.Memᴰ.{head as here}
 use mathlib.Core.List.Memᴰ.{tail as there}
 use mathlib.Core.List.{List, [], ◌∷◌, Memᴰ as In}
@@ -8,10 +8,11 @@ use native.Mathlib.Nat.{mul-suc}
 use native.Mathlib.Omega.{arith}
 use lib.IntN.{ℤ, pos, nat_abs}
 use lib.ListN.{length}
-use Rattle.rules.specs.Picture.{Dir, N, E, S, W, Dart}
+use Rattle.rules.specs.Picture.{Dart}
+use Rattle.rules.specs.declared.Dir.{Dir}
+use Rattle.rules.specs.declared.Dir.TheVariants.{N, E, S, W}
 use Rattle.veneer.specs.Sums.{total, signed_of, signed}
 use Rattle.veneer.proofs.Signed.{sum_size, minus_size}
-use Rattle.lattice.specs.Dirs.{dir}
 
 pub total_size : {A : Type 0} (f : A → ℤ) (b : ℕ) (l : List A) → ((a : A) → In a l → nat_abs (f a) ≤ b) → nat_abs (total f l) ≤ b * length l
 total_size f b [] h = omega arith
@@ -25,11 +26,3 @@ signed_most W y = omega (arith, minus_size (pos y))
 
 pub signed_size : (a : Dart) → nat_abs (signed a) ≤ a.y
 signed_size a = signed_most a.d a.y
-
--- a step neither east nor west adds nothing
-pub level : (d y : ℕ) → d < 4 → (d ≡ 1 → ⊥) → (d ≡ 3 → ⊥) → signed_of (dir d) y ≡ pos 0
-level zero y h n m = refl
-level (suc zero) y h n m = absurd (n refl)
-level (suc (suc zero)) y h n m = refl
-level (suc (suc (suc zero))) y h n m = absurd (m refl)
-level (suc (suc (suc (suc d)))) y h n m = absurd (omega arith)

@@ -1,7 +1,6 @@
 -- A contour walked so far: its marks, its nodes and its sum.
 use Prim.Native.Nat.{ℕ, ◌≤◌}
 use mathlib.Core.Path.{◌≡◌, refl, sym, ap, subst, ◌∙◌}
-use mathlib.Core.Bool.{true, false}
 use mathlib.Core.List.Memᴰ.{append_left as in_left}
 use mathlib.Core.List.{List, [], ◌∷◌, ◌++◌, Memᴰ as In}
 use native.Mathlib.Omega.{arith}
@@ -10,7 +9,7 @@ use mir.Syntax.{w64}
 use mir.Val.{to_z, of_z}
 use mir.ValLaws.{to_z-of_z}
 use Rattle.rules.specs.Lists.{keep}
-use Rattle.rules.specs.Picture.{picture, Dart, one, same_dart, ahead_x, ahead_y}
+use Rattle.rules.specs.Picture.{picture, Dart, one, ahead_x, ahead_y}
 use Rattle.rules.specs.Graph.{meets}
 use Rattle.rules.proofs.Lattice.Darts.{crack_y}
 use Rattle.rules.proofs.Contours.Loops.{loop_of, loop_cracks}
@@ -84,8 +83,8 @@ module _ {s : Size} {ls work₀ : List ℕ} {at : ℕ} {w : Walker} {region : �
           adds ∙ ap (λ k. k +ℤ signed (dart_of c)) o.sum
           ∙ sym (total_append signed o.done (dart_of c ∷ []) ∙ ap (λ k. total signed o.done +ℤ k) (+ℤ_idr (signed (dart_of c))))
 
-      pub goes_on : same_dart (dart_of c') (dart_of w) ≡ false → Sofar s ls work₀ at w region work' c' n' t'
+      pub goes_on : (c' ≡ w → ⊥) → Sofar s ls work₀ at w region work' c' n' t'
       goes_on e = record { done = o.done ++ (dart_of c ∷ []); course = going o.course u.turned e; words = words_more; nodes = nodes_more; sum = sum_more }
 
-      pub ends : same_dart (dart_of c') (dart_of w) ≡ true → Rounded s ls at w work₀ work' (record { nodes = n'; sum = t' })
+      pub ends : c' ≡ w → Rounded s ls at w work₀ work' (record { nodes = n'; sum = t' })
       ends e = let g = gone o.course u.turned e in record { looped = is_over_lem marked u e; sum = rw g sum_more }

@@ -17,8 +17,12 @@ use Rattle.lattice.specs.Walker.{dart_of}
 use Rattle.face.specs.declared.contours.Found.{Found}
 use Rattle.face.specs.Contours.{Looped, Scan, FoundAll}
 use Rattle.assemble.specs.Words.{pixel_in}
-use Rattle.calls.specs.declared.Answer.{Answer}
-use Rattle.calls.specs.Outcome.{map_of, answer_of, with_number, outcome, answered}
+use Rattle.std.specs.Prelude.{Result}
+use Rattle.rules.specs.declared.Refusal.{Refusal}
+use Rattle.rules.specs.Refusals.{number_in}
+use Rattle.calls.specs.declared.Counts.{Counts}
+use Rattle.calls.specs.declared.Refused.{Refused}
+use Rattle.calls.specs.Outcome.{map_of, answer_with, answered_by, outcome, answered}
 use Rattle.veneer.specs.declared.Round.{Round}
 use Rattle.veneer.specs.Sums.{total, signed, sums, sums_after, Measured}
 
@@ -96,15 +100,18 @@ pub record MeasuresFaces (s : Size) (ls work : List ℕ) (numbers : List ℤ) (w
   pub pixels : Pixels s ls numbers numbers'
   pub kept : Kept 0 (8 * plane s.width s.height) work work'
 
--- THE ANSWER: its counts, and its number by the room for the sums
-pub record Answered (s : Size) (ls work : List ℕ) (numbers : List ℤ) (work' : List ℕ) (numbers' : List ℤ) (a : Answer) : Type 0 where
-  pub number : a.number ≡ first_hit (record { number = 9; hits = ltb (length numbers) (length (sums (map_of s ls))) } ∷ [])
-  pub counts : answer_of (with_number 0 a) ≡ counted 0 (cut_list (map_of s ls))
-  pub sums : numbers' ≡ sums_after a.number (sums (map_of s ls)) numbers
+-- THE ANSWER: the counts, and by the room for the sums whether they are refused
+pub record Answered (s : Size) (ls work : List ℕ) (numbers : List ℤ) (work' : List ℕ) (numbers' : List ℤ) (r : Result Counts Refused) : Type 0 where
+  pub room : Result (Unit {0}) Refusal
+  pub counts : Counts
+  pub answer : r ≡ answered_by room counts
+  pub number : number_in room ≡ first_hit (record { number = 9; hits = ltb (length numbers) (length (sums (map_of s ls))) } ∷ [])
+  pub counted_all : answer_with 0 counts ≡ counted 0 (cut_list (map_of s ls))
+  pub sums : numbers' ≡ sums_after (number_in room) (sums (map_of s ls)) numbers
   pub kept : Kept 0 (8 * plane s.width s.height) work work'
 
 -- what the call answered and left, as the rules have it
-abbrev pub measured_as : Answer → List ℕ → List ℤ → Measured
+abbrev pub measured_as : Result Counts Refused → List ℕ → List ℤ → Measured
 measured_as a work numbers = record { outcome = outcome a (work ∷ []); sums = numbers }
 
 -- and in words, as C programs have it

@@ -1,7 +1,9 @@
 -- How much veneer is in each piece (docs/RULES.md, #101): sums over the steps of contours, in signed numbers.
 use Rattle.std.specs.Prelude.{ℕ, Bool, true, false, List, [], ◌∷◌, ◌++◌, map, ltb, eqb, length, drop, ℤ, pos, negsuc, neg_ℤ, ◌+ℤ◌}
 use Rattle.rules.specs.Lists.{keep}
-use Rattle.rules.specs.Picture.{Picture, Dir, N, E, S, W, Dart}
+use Rattle.rules.specs.Picture.{Picture, Dart}
+use Rattle.rules.specs.declared.Dir.{Dir}
+use Rattle.rules.specs.declared.Dir.TheVariants.{N, E, S, W}
 use Rattle.rules.specs.Graph.{segments}
 use Rattle.rules.specs.Face.{pixels, label_of, sides, Face, faces}
 use Rattle.rules.specs.Calls.{Map, picture_of, cut_list, Outcome, call}

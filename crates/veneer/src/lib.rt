@@ -12,10 +12,10 @@ ghost use Rattle.calls.specs.Steps.{GraphCounted, IslandsNumbered};
 ghost use Rattle.veneer.specs.Sums.{signed, veneer as veneer_of};
 ghost use Rattle.veneer.specs.Steps.{Rounded, Numberable, Numbers, face_in, Fits, Measuring, Measures, MeasuredAll, firsts_of, MeasuresFaces, Answered, measured_as};
 
-use calls::Answer;
+use calls::{Counts, Refused};
 use face::contours::Found;
-use graph::Counts;
 use lattice::{RegionId, Size, Walker};
+use rules::{Dir, Refusal};
 
 // ONE CONTOUR
 
@@ -28,19 +28,15 @@ struct Round {
 
 // The sum t with the step ahead of c.
 fn risen(t: i64, c: Walker) -> i64
-    requires fact_1 { nat_abs t ≤ 4611686018427387904 }
-    requires fact_2 { c.y ≤ 16384 }
-    requires fact_3 { c.d < 4 }
+    requires small { nat_abs t ≤ 4611686018427387904 }
+    requires low { c.y ≤ 16384 }
     ensures { result ≡ t +ℤ signed (dart_of c) }
 {
-    let y = c.y;
-    if c.d == 1 {
-        return t + (y as i64);
+    match c.d {
+        Dir::E => t + i64::from(c.y),
+        Dir::W => t - i64::from(c.y),
+        Dir::N | Dir::S => t,
     }
-    if c.d == 3 {
-        return t - (y as i64);
-    }
-    t
 }
 
 // Around the contour that the dart of w is a step of. Each of its steps east is marked.
@@ -52,8 +48,8 @@ fn contour(
     w: Walker,
     region: RegionId,
 ) -> Round
-    requires fact_1 { Starts s labels.now w region.0 }
-    requires fact_2 { at + plane s.width s.height ≤ length work.old }
+    requires starts { Starts s labels.now w region.0 }
+    requires room { at + plane s.width s.height ≤ length work.old }
     ensures { Rounded s labels.now at w work.old work.new result }
 {
     let mut c = w;
@@ -64,11 +60,9 @@ fn contour(
         t = risen(t, c);
         let m = c.moved();
         let a = lattice::look(s, labels, m.x, m.y);
-        if a.node() {
-            n += 1;
-        }
+        n += u32::from(a.node());
         c = face::contours::turn(c, a, region);
-        if face::contours::same(c, w) {
+        if c == w {
             return Round { nodes: n, sum: t };
         }
     }
@@ -82,16 +76,15 @@ fn add(numbers: &mut [i64], i: usize, t: i64)
     ensures { numbers.new ≡ set numbers.old i (get_or numbers.old i (pos 0) +ℤ t) }
 {
     if i < numbers.len() {
-        let v = numbers[i];
-        numbers[i] = v + t;
+        numbers[i] += t;
     }
 }
 
 // The sum t of a contour added to that of the face on the left of its step ahead of w.
 fn add_sum(s: Size, work: &[u32], sums: &mut [i64], w: Walker, t: i64)
-    requires fact_1 { Sides s }
-    requires fact_2 { Flanked s w }
-    requires fact_3 { Fits sums.old (face_in s work.now w) t }
+    requires sides { Sides s }
+    requires flanked { Flanked s w }
+    requires fits { Fits sums.old (face_in s work.now w) t }
     ensures { sums.new ≡ set sums.old (face_in s work.now w) (get_or sums.old (face_in s work.now w) (pos 0) +ℤ t) }
 {
     let plane = lattice::plane(s);
@@ -112,32 +105,23 @@ fn find(
     x: u32,
     y: u32,
 ) -> Found
-    requires fact_1 { Map s labels.now }
-    requires fact_2 { Corner s x y }
-    requires fact_3 { Measuring s labels.now at x y work.old sums.old f }
+    requires map { Map s labels.now }
+    requires corner { Corner s x y }
+    requires measuring { Measuring s labels.now at x y work.old sums.old f }
     ensures { Measures s labels.now at (suc x) y work.old sums.old work.new sums.new result }
 {
     let a = lattice::look(s, labels, x, y);
-    let l = a.left(1);
-    if s.paints <= l.0 {
+    let l = a.left(Dir::E);
+    if s.paints <= l.0 || !a.crack(Dir::E) || work[face::contours::slot(s, at, x, y)] != 0 {
         return f;
     }
-    if a.crack(1) {
-        let i = face::contours::slot(s, at, x, y);
-        if work[i] == 0 {
-            let w = Walker { x, y, d: 1 };
-            let r = contour(s, labels, work, at, w, l);
-            let t = r.sum;
-            add_sum(s, work, sums, w, t);
-            let contours = f.contours + 1;
-            let references = f.references + face::contours::references(r.nodes);
-            return Found {
-                contours,
-                references,
-            };
-        }
+    let w = Walker { x, y, d: Dir::E };
+    let r = contour(s, labels, work, at, w, l);
+    add_sum(s, work, sums, w, r.sum);
+    Found {
+        contours: f.contours + 1,
+        references: f.references + face::contours::references(r.nodes),
     }
-    f
 }
 
 // The contours found along a row of corners.
@@ -150,36 +134,30 @@ fn find_row(
     f: Found,
     y: u32,
 ) -> Found
-    requires fact_1 { Map s labels.now }
-    requires fact_2 { y ≤ s.height }
-    requires fact_3 { Measuring s labels.now at 0 y work.old sums.old f }
+    requires map { Map s labels.now }
+    requires row { y ≤ s.height }
+    requires measuring { Measuring s labels.now at 0 y work.old sums.old f }
     ensures { Measures s labels.now at 0 (suc y) work.old sums.old work.new sums.new result }
 {
-    let last = s.width;
     let mut g = f;
-    let mut x: u32 = 0;
-    while x < last {
+    for x in 0..s.width {
         g = find(s, labels, work, sums, at, g, x, y);
-        x += 1;
     }
     g
 }
 
 // The contours of all painted regions and their references, with marks in the plane that starts at `at`, and the sum of each face.
 fn sum_all(s: Size, labels: &[u32], work: &mut [u32], sums: &mut [i64], at: usize) -> Found
-    requires fact_1 { Map s labels.now }
-    requires fact_2 { Measuring s labels.now at 0 0 work.old sums.old (record { contours = 0; references = 0 }) }
+    requires map { Map s labels.now }
+    requires measuring { Measuring s labels.now at 0 0 work.old sums.old (record { contours = 0; references = 0 }) }
     ensures { MeasuredAll s labels.now at work.old sums.old work.new sums.new result }
 {
-    let last = s.height;
     let mut g = Found {
         contours: 0,
         references: 0,
     };
-    let mut y: u32 = 0;
-    while y <= last {
+    for y in 0..=s.height {
         g = find_row(s, labels, work, sums, at, g, y);
-        y += 1;
     }
     g
 }
@@ -191,22 +169,20 @@ fn number_faces(work: &mut [u32], sums: &mut [i64], heads: usize, ids: usize, li
     requires { Numberable heads ids list m work.old sums.old }
     ensures { Numbers heads ids list m work.old sums.old work.new sums.new }
 {
-    let mut k: usize = 0;
-    while k < m {
+    for k in 0..m {
         let p = store::get(work, list + k) as usize;
         store::put(work, heads + p, k as u32);
         sums[k] = 0;
-        k += 1;
     }
 }
 
 // The sum of each face, in face order, into a store that holds them all, and how many contours and references there are. Plane 5 of the work
-// store has the first pixel of each pixel's island; 4 is used for the faces' numbers, 6 for the list of the islands, 7 for the sort and the marks.
+// store has the first pixel of each pixel's island; 4 is used for the faces' numbers, 6 for the list of the islands, 7 for the marks.
 fn measure(s: Size, labels: &[u32], work: &mut [u32], sums: &mut [i64]) -> Found
-    requires fact_1 { Map s labels.now }
-    requires fact_2 { 8 * plane s.width s.height ≤ length work.old }
-    requires fact_3 { IslandsNumbered s labels.now work.old }
-    requires fact_4 { length (firsts_of s labels.now) ≤ length sums.old }
+    requires map { Map s labels.now }
+    requires planes { 8 * plane s.width s.height ≤ length work.old }
+    requires islands { IslandsNumbered s labels.now work.old }
+    requires sums { length (firsts_of s labels.now) ≤ length sums.old }
     ensures { MeasuresFaces s labels.now work.old sums.old work.new sums.new result }
 {
     let plane = lattice::plane(s);
@@ -215,7 +191,7 @@ fn measure(s: Size, labels: &[u32], work: &mut [u32], sums: &mut [i64]) -> Found
     let list = 6 * plane;
     let marks = 7 * plane;
     let m = assemble::list_islands(labels, work, s.paints, s.bound, heads, ids, list);
-    face::order::sort(labels, work, list, marks, m);
+    face::order::sort(labels, work, list, m);
     number_faces(work, sums, heads, ids, list, m);
     store::fill(work, marks, plane, 0);
     sum_all(s, labels, work, sums, marks)
@@ -223,40 +199,46 @@ fn measure(s: Size, labels: &[u32], work: &mut [u32], sums: &mut [i64]) -> Found
 
 // THE CALL
 
-// The counts as `size` has them, with 9 when the store of sums holds too few; the contours are then counted alone.
-fn measured(s: Size, labels: &[u32], work: &mut [u32], sums: &mut [i64], c: Counts) -> Answer
-    requires fact_1 { Map s labels.now }
-    requires fact_2 { 8 * plane s.width s.height ≤ length work.old }
-    requires fact_3 { GraphCounted s labels.now work.old c }
+// The counts as `size` has them, refused where the store of sums holds too few; the contours are then counted alone.
+fn measured(
+    s: Size,
+    labels: &[u32],
+    work: &mut [u32],
+    sums: &mut [i64],
+    c: graph::Counts,
+) -> Result<Counts, Refused>
+    requires map { Map s labels.now }
+    requires planes { 8 * plane s.width s.height ≤ length work.old }
+    requires graph { GraphCounted s labels.now work.old c }
     ensures { Answered s labels.now work.old sums.old work.new sums.new result }
 {
     let faces = face::islands::islands(s, labels, work);
-    let number = calls::short(9, sums.len(), faces);
-    if number != 0 {
-        let f = face::count(s, labels, work);
-        let mut a = calls::answer_whole(c, f);
-        a.number = number;
-        return a;
+    let room = calls::short(Refusal::ShortFaces, sums.len(), faces);
+    if room.is_ok() {
+        let found = measure(s, labels, work, sums);
+        let f = face::Counts {
+            references: found.references,
+            contours: found.contours,
+            faces,
+        };
+        return calls::whole_counts(c, f).answer(room);
     }
-    let found = measure(s, labels, work, sums);
-    let f = face::Counts {
-        references: found.references,
-        contours: found.contours,
-        faces,
-    };
-    calls::answer_whole(c, f)
+    let f = face::count(s, labels, work);
+    calls::whole_counts(c, f).answer(room)
 }
 
 // How much veneer is in each piece: the sum of each face, in face order.
-pub fn veneer(s: Size, labels: &[u32], work: &mut [u32], sums: &mut [i64]) -> Answer
+pub fn veneer(
+    s: Size,
+    labels: &[u32],
+    work: &mut [u32],
+    sums: &mut [i64],
+) -> Result<Counts, Refused>
     ensures { measured_as result work.new sums.new ≡ veneer_of (map_of s labels.now) work.old sums.old }
 {
-    let early = calls::check_map(s, labels, work);
-    if early != 0 {
-        return calls::refuse(early);
-    }
+    calls::check_map(s, labels, work)?;
     let c = calls::count_graph(s, labels, work);
-    let a = measured(s, labels, work, sums, c);
+    let answer = measured(s, labels, work, sums, c);
     calls::clear(s, work);
-    a
+    answer
 }

@@ -4,7 +4,8 @@ use mathlib.Core.Path.{◌≡◌, sym, ap, ◌∙◌}
 use mathlib.Core.List.{List, map, Memᴰ as In}
 use lib.ListN.{length, get_or, length-map}
 use Rattle.rules.specs.Lists.{flat}
-use Rattle.rules.specs.Picture.{Picture, OUTSIDE, E, Dart, dart}
+use Rattle.rules.specs.Picture.{Picture, OUTSIDE, Dart, dart}
+use Rattle.rules.specs.declared.Dir.TheVariants.{E}
 use Rattle.rules.specs.Graph.{segments}
 use Rattle.rules.specs.Describes.{Describes}
 use Rattle.rules.specs.Face.{label_of, firsts, sides, contours, faces}

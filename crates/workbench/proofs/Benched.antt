@@ -3,38 +3,42 @@ use Prim.Native.Nat.{ℕ, ◌+◌, ◌*◌, ◌<◌, ◌≤◌}
 use mathlib.Core.Bool.{Bool, true, false}
 use mathlib.Core.Path.{◌≡◌, refl, sym, ap, ◌∙◌}
 use mathlib.Core.Logic.{inr, ⊎_elim}
-use mathlib.Core.List.{List, [], ◌∷◌}
+use mathlib.Core.List.{List, [], ◌∷◌, map}
 use native.Mathlib.Omega.{arith}
 use lib.ListN.{length, replicate}
 use lib.Seq.{sets}
 use Rattle.rules.specs.Picture.{Picture, Dart, OUTSIDE, picture}
 use Rattle.rules.specs.Graph.{nodes, cracks}
-use Rattle.rules.specs.Calls.{Map, CutList, cuts, cut_list, graph_list, counted, refused, Check, first_hit, face_checks}
+use Rattle.std.specs.Prelude.{Result, Err}
+use Rattle.std.specs.Result.{result_and}
+use Rattle.rules.specs.declared.Refusal.{Refusal}
+use Rattle.rules.specs.Refusals.{number_of, number_in}
+use Rattle.rules.specs.Calls.{Map, CutList, cuts, cut_list, graph_list, counted, Check, first_hit, face_checks, store_after}
 use Rattle.rules.proofs.Tracing.Partition.{describes}
 use Rattle.rules.proofs.CutList.Counts.{counts}
 use Rattle.store.specs.Words.{Kept}
+use Rattle.store.proofs.Writes.{kept_none, kept_then}
 use Rattle.lattice.specs.declared.Size.{Size}
 use Rattle.lattice.specs.Size.{Map as Sized, pic}
 use Rattle.lattice.specs.Planes.{plane}
 use Rattle.lattice.proofs.Frame.{framed}
-use Rattle.graph.specs.declared.Counts.{Counts}
+use Rattle.graph.specs.declared.Counts.{Counts as GraphCounts}
 use Rattle.assemble.specs.declared.Done.{Done}
 use Rattle.assemble.specs.Assembly.{Standing, Assembled}
 use Rattle.accept.specs.Given.{Given, segments_in}
 use Rattle.accept.specs.Test.{accepts}
 use Rattle.accept.proofs.Exact.{accepts_true}
-use Rattle.calls.specs.declared.Answer.{Answer}
-use Rattle.calls.specs.Outcome.{map_of, answer_of, with_number, outcome}
-use Rattle.calls.specs.Counted.{or_else}
+use Rattle.calls.specs.declared.Counts.{Counts}
+use Rattle.calls.specs.Outcome.{map_of, unlooked, answer_with, answered_by, outcome}
 use Rattle.calls.specs.Steps.{GraphCounted, IslandsNumbered}
-use Rattle.calls.proofs.Checks.{hits_or, both_miss}
+use Rattle.calls.proofs.Checks.{hits_and, both_miss}
 use Rattle.calls.proofs.Outcomes.{Late, first, store_written, store_kept}
 use Rattle.calls.proofs.Calls.{faces_roomy, call_refused, call_answered}
 use Rattle.workbench.specs.Bench.{given_list, strange, assemble}
 use Rattle.workbench.proofs.Assembled.{stands, given_room}
 
 -- THE COUNTS that the test asks for
-module _ {s : Size} {ls work : List ℕ} {c : Counts} (k : GraphCounted s ls work c) where
+module _ {s : Size} {ls work : List ℕ} {c : GraphCounts} (k : GraphCounted s ls work c) where
   pub counted_nodes : c.nodes ≡ length (nodes (pic s ls))
   counted_nodes = k.tallied.nodes
 
@@ -80,10 +84,10 @@ module _ (s : Size) (ls : List ℕ) (g : Given) where
     late = (omega arith, (omega arith, (omega arith, (omega arith, tt))))
 
     -- THE NUMBER
-    pub number_is : {n t f : ℕ} {fits : Bool} → n ≡ or_else t f → t ≡ first_hit (strange fits ∷ []) → fits ≡ accepts g P → f ≡ first_hit (face_checks (cut_list m) rs cs fs) → n ≡ first_hit more
-    number_is e et ef er =
-        let first : _ ≡ first_hit (strange (accepts g P) ∷ []) = et ∙ ap (λ (b : Bool). first_hit (strange b ∷ [])) ef in
-        e ∙ (λ i. or_else (first i) (er i)) ∙ hits_or (strange (accepts g P) ∷ []) (face_checks (cut_list m) rs cs fs) (omega arith, tt)
+    pub number_is : {fits : Bool} (given room : Result (Unit {0}) Refusal) → number_in given ≡ first_hit (strange fits ∷ []) → fits ≡ accepts g P
+        → number_in room ≡ first_hit (face_checks (cut_list m) rs cs fs) → number_in (result_and given room) ≡ first_hit more
+    number_is given room eg ef er =
+        hits_and (strange (accepts g P) ∷ []) (face_checks (cut_list m) rs cs fs) (omega arith, tt) given room (eg ∙ ap (λ (b : Bool). first_hit (strange b ∷ [])) ef) er
 
     misses : first_hit more ≡ 0 → (first_hit (strange (accepts g P) ∷ []) ≡ 0) × (first_hit (face_checks (cut_list m) rs cs fs) ≡ 0)
     misses e = both_miss (strange (accepts g P) ∷ []) (face_checks (cut_list m) rs cs fs) (omega arith, tt) e
@@ -97,30 +101,40 @@ module _ (s : Size) (ls : List ℕ) (g : Given) where
         go true z = refl
         go false z = absurd (omega arith)
 
+    -- THE STORES, by the number
+    pub record Benched (n : ℕ) (work work' rs' cs' fs' : List ℕ) : Type 0 where
+      pub stores : rs' ∷ cs' ∷ fs' ∷ [] ≡ map (λ p. store_after n p.0 p.1) parts
+      pub kept : Kept 0 (8 * plane s.width s.height) work work'
+
+    pub bench_left : {n : ℕ} {work : List ℕ} → (n ≡ 0 → ⊥) → Benched n work work rs cs fs
+    bench_left {n} h = record {
+      stores = λ i. store_kept n l.references rs h i ∷ store_kept n l.contours cs h i ∷ store_kept n l.faces fs h i ∷ [];
+      kept = kept_none;
+    }
+
+    pub bench_written : {n : ℕ} → n ≡ first_hit more → n ≡ 0 → s.paints ≤ OUTSIDE → {work work' rs' cs' fs' : List ℕ} {d : Done}
+        → Assembled s ls (segments_in g) work rs cs fs d work' rs' cs' fs' → Benched n work work' rs' cs' fs'
+    unfolding given_list cuts picture
+    bench_written e h b {rs' = rs'} {cs' = cs'} {fs' = fs'} q =
+        let zero : first_hit more ≡ 0 = sym e ∙ h in
+        let room = given_room m b g (accepts_true g P (framed s ls) (number_accepts zero)) in
+        let roomy = faces_roomy s ls rs cs fs 0 (λ _. (misses zero).1) in
+        let references = store_written l.references rs rs' (omega (arith, room.0, roomy.references refl)) q.written.reference_words in
+        let contours = store_written l.contours cs cs' (omega (arith, room.1, roomy.contours refl)) q.written.contour_words_lem in
+        let faces = store_written l.faces fs fs' (omega (arith, room.2, roomy.faces refl)) q.written.face_words_lem in
+        record { stores = rw h (λ i. references i ∷ contours i ∷ faces i ∷ []); kept = worked q }
+
     -- THE OUTCOME
 
     module _ (work : List ℕ) where
-      pub bench_refused : (a : Answer) → (first m work ≡ 0 → ⊥) → answer_of a ≡ refused (first m work) → outcome a (work ∷ rs ∷ cs ∷ fs ∷ []) ≡ assemble m g work rs cs fs
+      pub bench_refused : (why : Refusal) → number_of why ≡ first m work → outcome (Err (unlooked why)) (work ∷ rs ∷ cs ∷ fs ∷ []) ≡ assemble m g work rs cs fs
       unfolding assemble
       bench_refused = call_refused s ls work (cut_list m) more parts
 
-      module _ {n : ℕ} {a : Answer} {work₁ work₂ : List ℕ} (z : first m work ≡ 0) (e : n ≡ first_hit more) (k : answer_of a ≡ counted 0 (cut_list m))
-          (kept : Kept 0 (8 * plane s.width s.height) work work₁) (cleared : work₂ ≡ sets work₁ 0 (replicate (8 * plane s.width s.height) 0)) where
-        pub bench_stopped : (n ≡ 0 → ⊥) → outcome (with_number n a) (work₂ ∷ rs ∷ cs ∷ fs ∷ []) ≡ assemble m g work rs cs fs
-        unfolding assemble
-        bench_stopped h =
-            call_answered s ls work (cut_list m) more parts n a work₁ work₂ (rs ∷ cs ∷ fs ∷ []) z late e k kept cleared
-            (λ i. store_kept n l.references rs h i ∷ store_kept n l.contours cs h i ∷ store_kept n l.faces fs h i ∷ [])
-
-        pub bench_done : n ≡ 0 → s.paints ≤ OUTSIDE → {work₀ rs' cs' fs' : List ℕ} {d : Done} → Assembled s ls (segments_in g) work₀ rs cs fs d work₁ rs' cs' fs'
-            → outcome (with_number n a) (work₂ ∷ rs' ∷ cs' ∷ fs' ∷ []) ≡ assemble m g work rs cs fs
-        unfolding assemble given_list cuts picture
-        bench_done h b {rs'} {cs'} {fs'} q =
-            let zero : first_hit more ≡ 0 = sym e ∙ h in
-            let room = given_room m b g (accepts_true g P (framed s ls) (number_accepts zero)) in
-            let roomy = faces_roomy s ls rs cs fs 0 (λ _. (misses zero).1) in
-            let references = store_written l.references rs rs' (omega (arith, room.0, roomy.references refl)) q.written.reference_words in
-            let contours = store_written l.contours cs cs' (omega (arith, room.1, roomy.contours refl)) q.written.contour_words_lem in
-            let faces = store_written l.faces fs fs' (omega (arith, room.2, roomy.faces refl)) q.written.face_words_lem in
-            call_answered s ls work (cut_list m) more parts n a work₁ work₂ (rs' ∷ cs' ∷ fs' ∷ []) z late e k kept cleared
-            (rw h (λ i. references i ∷ contours i ∷ faces i ∷ []))
+      pub bench_answered : (room : Result (Unit {0}) Refusal) {c : Counts} {work₁ work₂ work₃ rs' cs' fs' : List ℕ} → first m work ≡ 0 → number_in room ≡ first_hit more
+          → answer_with 0 c ≡ counted 0 (cut_list m) → Kept 0 (8 * plane s.width s.height) work work₁ → Benched (number_in room) work₁ work₂ rs' cs' fs'
+          → work₃ ≡ sets work₂ 0 (replicate (8 * plane s.width s.height) 0)
+          → outcome (answered_by room c) (work₃ ∷ rs' ∷ cs' ∷ fs' ∷ []) ≡ assemble m g work rs cs fs
+      unfolding assemble
+      bench_answered room {c} {work₂ = work₂} {work₃ = work₃} {rs'} {cs'} {fs'} z e k kept b cleared =
+          call_answered s ls work (cut_list m) more parts room c work₂ work₃ (rs' ∷ cs' ∷ fs' ∷ []) z late e k (kept_then kept b.kept) cleared b.stores

@@ -3,21 +3,23 @@
 
 ghost use Rattle.std.specs.Prelude.{◌≡◌, [], ◌∷◌};
 ghost use Rattle.rules.specs.Calls.{first_hit};
+ghost use Rattle.rules.specs.Refusals.{number_in};
 ghost use Rattle.accept.specs.Walks.{given};
 ghost use Rattle.calls.specs.Outcome.{map_of, outcome};
 ghost use Rattle.workbench.specs.Bench.{strange, assemble as assemble_of};
 
-use calls::Answer;
+use calls::{Counts, Refused};
 use lattice::Size;
+use rules::Refusal;
 
-// 15 where the graph does not describe the map, or 0.
-fn check_given(fits: bool) -> u32
-    ensures { result ≡ first_hit (strange fits ∷ []) }
+// Whether the graph describes the map.
+fn check_given(fits: bool) -> Result<(), Refusal>
+    ensures { number_in result ≡ first_hit (strange fits ∷ []) }
 {
     if fits {
-        return 0;
+        return Ok(());
     }
-    15
+    Err(Refusal::StrangeGraph)
 }
 
 // References, contours and faces over the graph in the stores `nodes`, `segments` and `points`, which are only read.
@@ -33,15 +35,12 @@ pub fn assemble(
     references: &mut [u32],
     contours: &mut [u32],
     faces: &mut [u32],
-) -> Answer
+) -> Result<Counts, Refused>
     ensures { outcome result (work.new ∷ references.new ∷ contours.new ∷ faces.new ∷ []) ≡ assemble_of (map_of s labels.now) (given nodes.now node_count segments.now segment_count points.now) work.old references.old contours.old faces.old }
 {
-    let early = calls::check_map(s, labels, work);
-    if early != 0 {
-        return calls::refuse(early);
-    }
+    calls::check_map(s, labels, work)?;
     let c = calls::count_graph(s, labels, work);
-    let mut a = calls::count_faces(s, labels, work, c);
+    let counts = calls::count_faces(s, labels, work, c);
     let fits = accept::accept(
         s,
         labels,
@@ -55,25 +54,22 @@ pub fn assemble(
         c.steps,
     );
     let strange = check_given(fits);
-    let short = calls::check_faces(a, references.len(), contours.len(), faces.len());
-    let number = calls::or_else(strange, short);
-    a.number = number;
-    if number != 0 {
-        calls::clear(s, work);
-        return a;
+    let short = calls::check_faces(counts, references.len(), contours.len(), faces.len());
+    let room = strange.and(short);
+    if room.is_ok() {
+        assemble::assemble(
+            s,
+            labels,
+            nodes,
+            segments,
+            points,
+            segment_count,
+            work,
+            references,
+            contours,
+            faces,
+        );
     }
-    let _ = assemble::assemble(
-        s,
-        labels,
-        nodes,
-        segments,
-        points,
-        segment_count,
-        work,
-        references,
-        contours,
-        faces,
-    );
     calls::clear(s, work);
-    a
+    counts.answer(room)
 }

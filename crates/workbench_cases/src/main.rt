@@ -1,113 +1,110 @@
 // Assembles two graphs of another writer, renumbered and reversed, and each once more with a wrong word: prints the numbers and the stores of faces.
 #![tactic(auto)]
 
-use lattice::Size;
+use lattice::{NONE, OUTSIDE, Size};
 use std::io;
 
-fn column(rt: &impl Print, n: u32) -> io::Result<()> {
-    print!(rt; " {n}")
-}
-
-fn end_line(rt: &impl Print) -> io::Result<()> {
+// A title, and the words after it.
+fn say(rt: &impl Print, title: &str, words: &[u32]) -> io::Result<()> {
+    print!(rt; "{title:<10}")?;
+    for word in words {
+        print!(rt; " {word}")?;
+    }
     println!(rt)
 }
 
-// A title, and the words after it.
-fn say(rt: &impl Print, title: &[u8], words: &[u32]) -> io::Result<()> {
-    rt.write_all(title)?;
-    for word in words {
-        column(rt, *word)?;
-    }
-    end_line(rt)
+// How many records a store holds.
+fn count<T>(records: &[T]) -> u32 {
+    u32::try_from(records.len()).unwrap_or(u32::MAX)
 }
 
-// Over stores whose words are all 9, with a record or so to spare.
-fn bench(
-    rt: &impl Print,
-    s: Size,
-    labels: &[u32],
-    work: &mut [u32],
-    nodes: &[u32],
-    node_count: u32,
-    segments: &[u32],
-    segment_count: u32,
-    points: &[u32],
-) -> io::Result<()> {
-    let mut references = [9u32; 5];
-    let mut contours = [9u32; 5];
-    let mut faces = [9u32; 12];
-    let a = workbench::assemble(
-        s,
-        labels,
-        work,
-        nodes,
-        node_count,
-        segments,
-        segment_count,
-        points,
-        &mut references,
-        &mut contours,
-        &mut faces,
-    );
-    let answer = [
-        a.number,
-        a.nodes,
-        a.segments,
-        a.points,
-        a.references,
-        a.contours,
-        a.faces,
-        a.steps,
-    ];
-    say(rt, b"answer    ", &answer)?;
-    say(rt, b"references", &references)?;
-    say(rt, b"contours  ", &contours)?;
-    say(rt, b"faces     ", &faces)
+// A row of pixels, each with a paint of its own, and a graph for it.
+#[derive(Drop)]
+struct Given<'a> {
+    width: u32,
+    labels: &'a [u32],
+    nodes: &'a [[u32; 6]],
+    segments: &'a [[u32; 8]],
+    points: &'a [[u32; 2]],
+}
+
+impl Given<'_> {
+    // Its faces, over stores whose words are all 9, with a record or so to spare.
+    fn assemble(&self, rt: &impl Print, work: &mut [u32]) -> io::Result<()> {
+        let s = Size {
+            width: self.width,
+            height: 1,
+            paints: self.width,
+            bound: OUTSIDE,
+        };
+        let mut references = [9; 5];
+        let mut contours = [9; 5];
+        let mut faces = [9; 12];
+        let answer = workbench::assemble(
+            s,
+            self.labels,
+            work,
+            self.nodes.as_flattened(),
+            count(self.nodes),
+            self.segments.as_flattened(),
+            count(self.segments),
+            self.points.as_flattened(),
+            &mut references,
+            &mut contours,
+            &mut faces,
+        );
+        say(rt, "answer", &calls::words(answer))?;
+        say(rt, "references", &references)?;
+        say(rt, "contours", &contours)?;
+        say(rt, "faces", &faces)
+    }
 }
 
 // Two pixels: the nodes the other way round, the line between them first and northward, the way round the right one last and back.
 // The first node's out entry to the west is given.
 fn two_pixels(rt: &impl Print, west: u32) -> io::Result<()> {
-    let s = Size {
+    let given = Given {
         width: 2,
-        height: 1,
-        paints: 2,
-        bound: lattice::OUTSIDE,
+        labels: &[0, 1],
+        nodes: &[[1, 1, 0, 4, NONE, west], [1, 0, NONE, 5, 1, 2]],
+        segments: &[
+            [0, 2, 0, 1, 0, 1, 0, 0],
+            [2, 4, 1, 0, 0, OUTSIDE, 3, 1],
+            [6, 4, 0, 1, 1, OUTSIDE, 1, 3],
+        ],
+        points: &[
+            [1, 1],
+            [1, 0],
+            [1, 0],
+            [0, 0],
+            [0, 1],
+            [1, 1],
+            [1, 1],
+            [2, 1],
+            [2, 0],
+            [1, 0],
+        ],
     };
-    let labels = [0, 1];
-    let mut work = [7u32; 48];
-    let none = lattice::NONE;
-    let outside = lattice::OUTSIDE;
-    let nodes = [1, 1, 0, 4, none, west, 1, 0, none, 5, 1, 2];
-    let segments = [
-        0, 2, 0, 1, 0, 1, 0, 0, 2, 4, 1, 0, 0, outside, 3, 1, 6, 4, 0, 1, 1, outside, 1, 3,
-    ];
-    let points = [1, 1, 1, 0, 1, 0, 0, 0, 0, 1, 1, 1, 1, 1, 2, 1, 2, 0, 1, 0];
-    bench(rt, s, &labels, &mut work, &nodes, 2, &segments, 3, &points)
+    given.assemble(rt, &mut [7; 48])
 }
 
 // One pixel: its ring from another corner and the other way. Its last direction is given.
 fn one_pixel(rt: &impl Print, last: u32) -> io::Result<()> {
-    let s = Size {
+    let given = Given {
         width: 1,
-        height: 1,
-        paints: 1,
-        bound: lattice::OUTSIDE,
+        labels: &[0],
+        nodes: &[],
+        segments: &[[0, 5, NONE, NONE, 0, OUTSIDE, 0, last]],
+        points: &[[1, 1], [1, 0], [0, 0], [0, 1], [1, 1]],
     };
-    let labels = [0];
-    let mut work = [7u32; 32];
-    let nodes: [u32; 0] = [];
-    let none = lattice::NONE;
-    let segments = [0, 5, none, none, 0, lattice::OUTSIDE, 0, last];
-    let points = [1, 1, 1, 0, 0, 0, 0, 1, 1, 1];
-    bench(rt, s, &labels, &mut work, &nodes, 0, &segments, 1, &points)
+    given.assemble(rt, &mut [7; 32])
 }
 
 fn main(rt: HostRuntime) -> io::Result<()> {
     println!(rt; "two pixels")?;
     two_pixels(&rt, 3)?;
     println!(rt; "an out entry missing")?;
-    two_pixels(&rt, lattice::NONE)?;
+    two_pixels(&rt, NONE)?;
     println!(rt; "one pixel")?;
     one_pixel(&rt, 0)?;
     println!(rt; "a ring with a last direction")?;

@@ -12,13 +12,13 @@ pub returns-then-segments-count : goal.returns-then-segments-count
 returns-then-segments-count c = (refuse c.args.s _ _ (omega (arith, c.well_formed)) (λ k. let q = k.segment_room in omega (arith, c.if-segments-count.true)), kept_none)
 
 pub returns-then-held-corners : goal.returns-then-held-corners
-returns-then-held-corners c = (refuse c.args.s _ _ (omega (arith, c.well_formed)) (λ k. c.if-held-corners.true (k.node_count_lem ∙ sym c.requires.fact_3)), kept_none)
+returns-then-held-corners c = (refuse c.args.s _ _ (omega (arith, c.well_formed)) (λ k. c.if-held-corners.true (k.node_count_lem ∙ sym c.requires.corners)), kept_none)
 
-pub segments_fit-lines-requires : goal.segments_fit-lines-requires
-segments_fit-lines-requires c = record { fact_1 = c.requires.fact_1; fact_2 = omega (arith, c.requires.fact_2, (clear_kept c.args.s _ _ _ c.plane.ensures.0 c.fill.ensures).long); fact_3 = clear_marks c.args.s _ _ _ c.plane.ensures.0 c.fill.ensures c.requires.fact_2; fact_4 = omega (arith, c.well_formed) }
+pub segments_fit-requires-clause-unmarked : goal.segments_fit-requires-clause-unmarked
+segments_fit-requires-clause-unmarked c = clear_marks c.args.s _ _ _ c.plane.ensures.0 c.fill.ensures c.requires.marks
 
-pub returns-then-not-lines : goal.returns-then-not-lines
-returns-then-not-lines c = (refuse c.args.s _ _ (omega (arith, c.well_formed)) (no_lines c.args.s _ _ (omega (arith, c.well_formed)) (lines_of c.args.s c.args.labels.now c.requires.fact_4 c.segments_fit-lines.ensures.0) (c.if-not-lines.true)), kept_then (clear_kept c.args.s _ _ _ c.plane.ensures.0 c.fill.ensures) c.segments_fit-lines.ensures.1)
+pub returns-else-segments_fit : goal.returns-else-segments_fit
+returns-else-segments_fit c = (c.if-segments_fit.false ∙ refuse c.args.s _ _ (omega (arith, c.well_formed)) (no_lines c.args.s _ _ (omega (arith, c.well_formed)) (lines_of c.args.s c.args.labels.now c.requires.cracks c.segments_fit.ensures.0) c.if-segments_fit.false), kept_then (clear_kept c.args.s _ _ _ c.plane.ensures.0 c.fill.ensures) c.segments_fit.ensures.1)
 
-pub returns : goal.returns
-returns c = (decide c.args.s _ _ (omega (arith, c.well_formed)) (omega (arith, c.if-nodes-held.false)) (omega (arith, c.if-segments-count.false)) (c.if-held-corners.false ∙ c.requires.fact_3) ((lines_of c.args.s c.args.labels.now c.requires.fact_4 c.segments_fit-lines.ensures.0).yes (c.if-not-lines.false)) (c.nodes_fit.ensures _), kept_then (clear_kept c.args.s _ _ _ c.plane.ensures.0 c.fill.ensures) c.segments_fit-lines.ensures.1)
+pub returns-then-segments_fit : goal.returns-then-segments_fit
+returns-then-segments_fit c = (decide c.args.s _ _ (omega (arith, c.well_formed)) (omega (arith, c.if-nodes-held.false)) (omega (arith, c.if-segments-count.false)) (c.if-held-corners.false ∙ c.requires.corners) ((lines_of c.args.s c.args.labels.now c.requires.cracks c.segments_fit.ensures.0).yes c.if-segments_fit.true) (c.nodes_fit.ensures _), kept_then (clear_kept c.args.s _ _ _ c.plane.ensures.0 c.fill.ensures) c.segments_fit.ensures.1)

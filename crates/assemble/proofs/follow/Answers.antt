@@ -1,27 +1,24 @@
 -- `assemble::follow` meets its contract.
-use Rattle.assemble.proofs.Following.{begin, ends_here, work_length, going, gone}
+use Rattle.assemble.proofs.Following.{begin, ends_here, going, gone}
 use native.Mathlib.Omega.{arith}
-use mathlib.Core.Path.{◌∙◌}
+use mathlib.Core.Path.{sym}
+use borrow.Author.Tests.{eqb-true, eqb-false}
 use Rattle.assemble.proofs.follow.Goals as goal
 
-pub loop-s-init : goal.loop-s-init
-loop-s-init c = begin _ _ _ _ _ _ _ c.requires.fact_2 (omega arith)
+pub loop-r-init : goal.loop-r-init
+loop-r-init c = begin _ _ _ _ _ _ _ c.requires.closes (omega arith)
 
-pub next-d-requires : goal.next-d-requires
-next-d-requires c = record { fact_1 = c.requires.fact_1; fact_2 = ends_here _ _ _ _ _ _ _ c.loop-s.invariant }
+pub next-next-requires : goal.next-next-requires
+next-next-requires c = ends_here _ _ _ _ _ _ _ c.loop-r.invariant
 
-pub shape_of-work-then-d-r : goal.shape_of-work-then-d-r
-shape_of-work-then-d-r c =
-    c.put.auto.words ∙ work_length _ _ _ _ _ _ _ c.loop-s.invariant
+pub returns-then-eq : goal.returns-then-eq
+returns-then-eq c =
+    gone _ _ _ _ _ _ _ c.loop-r.invariant c.next-next.ensures c.put.ensures (eqb-true _ _ (sym c.if-eq.ensures))
 
-pub returns-then-d-r : goal.returns-then-d-r
-returns-then-d-r c =
-    gone _ _ _ _ _ _ _ c.loop-s.invariant c.next-d.ensures c.put.ensures c.if-d-r.true
+pub loop-r-smaller : goal.loop-r-smaller
+loop-r-smaller c =
+    (going _ _ _ _ _ _ _ c.loop-r.invariant c.next-next.ensures c.put.ensures (omega (arith, c.next-next.type_inv)) (eqb-false _ _ (sym c.if-eq.ensures))).1
 
-pub loop-s-smaller : goal.loop-s-smaller
-loop-s-smaller c =
-    (going _ _ _ _ _ _ _ c.loop-s.invariant c.next-d.ensures c.put.ensures (omega (arith, c.next-d.type_inv)) c.if-d-r.false).1
-
-pub loop-s-preserved : goal.loop-s-preserved
-loop-s-preserved c =
-    (going _ _ _ _ _ _ _ c.loop-s.invariant c.next-d.ensures c.put.ensures (omega (arith, c.next-d.type_inv)) c.if-d-r.false).0
+pub loop-r-preserved : goal.loop-r-preserved
+loop-r-preserved c =
+    (going _ _ _ _ _ _ _ c.loop-r.invariant c.next-next.ensures c.put.ensures (omega (arith, c.next-next.type_inv)) (eqb-false _ _ (sym c.if-eq.ensures))).0

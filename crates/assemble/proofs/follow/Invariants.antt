@@ -2,8 +2,8 @@
 use Rattle.assemble.proofs.Following.{Sofar, left}
 use Rattle.assemble.proofs.follow.Given as goal
 
-abbrev pub invariant-loop-s : goal.invariant-loop-s
-invariant-loop-s l = Sofar l.s l.labels l.nodes l.segments l.initial.work l.trail l.r l.work l.c
+abbrev pub invariant-loop-r : goal.invariant-loop-r
+invariant-loop-r l = Sofar l.g.size l.g.labels.now l.g.nodes.now l.g.segments.now l.initial.work l.trail l.r.0 l.work l.c.0
 
-abbrev pub decreases-loop-s : goal.decreases-loop-s
-decreases-loop-s l = left l.s l.labels l.nodes l.segments l.initial.work l.trail l.r l.c
+abbrev pub decreases-loop-r : goal.decreases-loop-r
+decreases-loop-r l = left l.g.size l.g.labels.now l.g.nodes.now l.g.segments.now l.initial.work l.trail l.r.0 l.c.0

@@ -1,9 +1,13 @@
 -- `assemble::link` meets its contract.
 use Rattle.assemble.proofs.Threads.{link_none, link_some}
+use mathlib.Core.Path.{refl}
+use native.Mathlib.Omega.{arith}
 use Rattle.assemble.proofs.link.Goals as goal
 
-pub returns-then-r-ne-NONE : goal.returns-then-r-ne-NONE
-returns-then-r-ne-NONE c = link_some _ _ _ _ c.if-r-ne-NONE.true c.put.ensures
+pub returns-in-Some : goal.returns-in-Some
+returns-in-Some c =
+    let low = rw c.in-Some.is at c.requires in
+    rw c.in-Some.is (link_some _ _ _ _ (λ e. omega (arith, low, e)) c.put.ensures)
 
-pub returns-else-r-ne-NONE : goal.returns-else-r-ne-NONE
-returns-else-r-ne-NONE c = link_none _ _ _ c.if-r-ne-NONE.false
+pub returns-in_default : goal.returns-in_default
+returns-in_default c = rw c.in_default.is (link_none _ _ _ refl)

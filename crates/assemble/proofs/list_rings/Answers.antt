@@ -1,33 +1,34 @@
 -- `assemble::list_rings` meets its contract.
-use Rattle.assemble.specs.Stage.{RingThrough}
-use native.Mathlib.Numerals.{add-one}
+use Rattle.assemble.proofs.Rings.{ring_low, no_ring, not_painted, ring_painted}
+use Prim.Native.Nat.{◌<◌, ◌*◌}
+use lib.ListN.{length}
+use mathlib.Core.Path.{sym}
 use native.Mathlib.Omega.{arith}
-use mathlib.Core.Path.{◌≡◌, refl, subst, ◌∙◌}
-use Prim.Native.Nat.{ℕ}
+use native.Mathlib.Numerals.{add-one}
 use Rattle.assemble.proofs.list_rings.Goals as goal
+use Rattle.assemble.proofs.list_rings.Goals.{then-not-is_open+then-region-g, then-not-is_open+else-region-g, else-not-is_open}
 
-pub loop-r-init : goal.loop-r-init
-loop-r-init c = (omega arith, c.requires, λ P ss w e t. t, refl)
+pub overflow_add-p-then-region-g : goal.overflow_add-p-then-region-g
+overflow_add-p-then-region-g c =
+    let u = c.requires in
+    let t = c.loop-i.invariant u.P u.ss u.work₀ u.total u.stage in
+    omega (arith, t.room.space, c.well_formed, ring_low t (omega (arith, u.total, c.loop-i-test.true)))
 
-pub list_ring-j-requires : goal.list_ring-j-requires
-list_ring-j-requires c =
-    let b = c.loop-r.invariant.1 in
-    record { P = b.P; ss = b.ss; work₀ = b.work₀; stage = b.stage; below = omega (arith, b.total, c.loop-r-test.true) }
+pub overflow_add-j : goal.overflow_add-j
+overflow_add-j c =
+    let u = c.requires in
+    let t = c.loop-i.invariant u.P u.ss u.work₀ u.total u.stage in
+    omega (arith, t.room.space, c.well_formed, ring_low t (omega (arith, u.total, c.loop-i-test.true)))
 
-pub loop-r-preserved : goal.loop-r-preserved
-loop-r-preserved c =
-    let i = c.loop-r.invariant in
-    let b = i.1 in
-    let g = c.list_ring-j.ensures in
-    let h = c.loop-r-test.true in (
-      omega (arith, h),
-      rw add-one (record { P = b.P; ss = b.ss; work₀ = b.work₀; stage = g b.P b.ss b.work₀ (omega (arith, b.total, h)) b.stage; total = b.total }),
-      rw add-one (λ P ss w e t. g P ss w (omega (arith, e, h)) (i.2 P ss w e t)),
-      c.list_ring-j.auto.work ∙ i.3,
-    )
-
-pub returns : goal.returns
-returns c =
-    let a = c.args in
-    let e : c.loop-r.r ≡ a.n = omega (arith, c.loop-r-test.false, c.loop-r.invariant.0) in
-    subst (λ (r : ℕ). RingThrough a.s a.segments.now a.trail a.lasts a.n a.k a.work.now r c.loop-r.j c.loop-r.work) e c.loop-r.invariant.2
+pub loop-i-preserved : goal.loop-i-preserved
+loop-i-preserved c =
+    λ P ss work₀ n s.
+    let t = c.loop-i.invariant P ss work₀ n s in
+    let b : c.loop-i.i < 2 * length ss = omega (arith, n, c.loop-i-test.true) in
+    elim c.if-not-is_open.branch [
+      | then-not-is_open+then-region-g w ↦
+          rw (w.work-is, w.j-is) (rw (add-one c.loop-i.i) (ring_painted t b (sym w.if-not-is_open.ensures) w.put.ensures (omega (arith, w.region-region.ensures, w.if-region-g.true)) w.put-then-region-g.ensures))
+      | then-not-is_open+else-region-g w ↦
+          rw (w.work-is, w.j-is, add-one) (not_painted t b (sym w.if-not-is_open.ensures) w.put.ensures (omega (arith, w.region-region.ensures, w.if-region-g.false)))
+      | else-not-is_open w ↦ rw (w.work-is, w.j-is, add-one) (no_ring t b (sym w.if-not-is_open.ensures))
+    ]

@@ -1,59 +1,45 @@
 -- `assemble::thread` meets its contract.
-use Rattle.assemble.specs.Groups.{ThreadsAll}
-use Rattle.assemble.proofs.Threads.{begin, end_is, first_is, head_low, threads_more}
-use Prim.Native.Nat.{ℕ, ◌-◌, suc}
-use mathlib.Core.Path.{◌≡◌, subst, ◌∙◌}
+use Rattle.assemble.proofs.Trails.{linkable}
+use Rattle.assemble.proofs.Threads.{begin, end_is, read_is, head_low, threads_more}
+use Prim.Native.Nat.{◌-◌, suc}
+use mathlib.Core.Path.{◌≡◌, ◌∙◌}
 use native.Mathlib.Omega.{arith}
-use Rattle.assemble.specs.Trails.{first_of}
-use mathlib.Core.List.{[]}
-use lib.ListN.{get_or}
 use Rattle.assemble.proofs.thread.Goals as goal
 
 pub loop-k-init : goal.loop-k-init
-loop-k-init c = (omega arith, λ cs span l. begin l)
+loop-k-init c = λ cs span l. begin l
 
-pub island_of-requires : goal.island_of-requires
-island_of-requires c =
+pub island-requires-clause-starts : goal.island-requires-clause-starts
+island-requires-clause-starts c =
     let u = c.requires in
     let l = u.loose in
-    let now = c.loop-k in
-    let k = now.k in
-    let t = now.invariant.1 u.cs u.span l in
+    let k = c.loop-k.k in
+    let t = c.loop-k.invariant u.cs u.span l in
     let at : k ≡ suc (k - 1) = omega (arith, c.loop-k-test.true) in
-    let b = now.invariant.0 in
-    let r : c.get-r.result ≡ first_of (get_or u.cs (k - 1) []) = c.get-r.ensures ∙ rw (c.get.ensures, end_is l t at b) (first_is l t at b) in
-    record { fact_1 = rw r (l.begin (k - 1) (omega (arith, b))); fact_2 = omega (arith, l.behind, l.last, l.room, c.well_formed) }
+    let b = c.loop-k.auto.k in
+    let r = read_is l t at b c.get.ensures c.get-in-loop-k.ensures in
+    rw r (l.begin (k - 1) (omega (arith, b)))
 
 pub link-requires : goal.link-requires
 link-requires c =
     let u = c.requires in
     let l = u.loose in
-    let now = c.loop-k in
-    let k = now.k in
-    let t = now.invariant.1 u.cs u.span l in
+    let k = c.loop-k.k in
+    let t = c.loop-k.invariant u.cs u.span l in
     let at : k ≡ suc (k - 1) = omega (arith, c.loop-k-test.true) in
-    let b = now.invariant.0 in
-    let r : c.get-r.result ≡ first_of (get_or u.cs (k - 1) []) = c.get-r.ensures ∙ rw (c.get.ensures, end_is l t at b) (first_is l t at b) in
-    head_low l t at b _ _ (rw (← r) c.island_of.ensures) c.get-first.ensures
+    let b = c.loop-k.auto.k in
+    let r = read_is l t at b c.get.ensures c.get-in-loop-k.ensures in
+    linkable _ c.named-first.ensures.1 (head_low l t at b _ _ (rw (← r) c.island.ensures) (c.named-first.ensures.0 ∙ c.get-in-loop-k-2.ensures))
 
 pub loop-k-preserved : goal.loop-k-preserved
 loop-k-preserved c =
-    let now = c.loop-k in
-    let k = now.k in
-    let b = now.invariant.0 in
-    let at : k ≡ suc (k - 1) = omega (arith, c.loop-k-test.true) in (
-      omega (arith, b),
-      λ cs span l.
-          let t = now.invariant.1 cs span l in
-          let r : c.get-r.result ≡ first_of (get_or cs (k - 1) []) = c.get-r.ensures ∙ rw (c.get.ensures, end_is l t at b) (first_is l t at b) in
-          threads_more l t at b (rw r at c.island_of.ensures) c.get-first.ensures (rw (c.get.ensures, end_is l t at b) at c.link.ensures) (rw r at c.put.ensures),
-    )
-
-pub shape_of-work : goal.shape_of-work
-shape_of-work c = let u = c.requires in (c.loop-k.invariant.1 u.cs u.span u.loose).changed.long
+    let k = c.loop-k.k in
+    let b = c.loop-k.auto.k in
+    let at : k ≡ suc (k - 1) = omega (arith, c.loop-k-test.true) in
+    λ cs span l.
+    let t = c.loop-k.invariant cs span l in
+    let r = read_is l t at b c.get.ensures c.get-in-loop-k.ensures in
+    threads_more l t at b (rw r at c.island.ensures) (c.named-first.ensures.0 ∙ c.get-in-loop-k-2.ensures) (rw (c.get.ensures, end_is l t at b) at c.link.ensures) (rw r at c.put.ensures)
 
 pub returns : goal.returns
-returns c =
-    let a = c.args in
-    let e : c.loop-k.k ≡ 0 = omega (arith, c.loop-k-test.false) in
-    subst (λ (k : ℕ). ThreadsAll a.s a.segments.now a.points.now a.trail a.heads a.ids a.lasts a.count a.work.now k c.loop-k.work) e c.loop-k.invariant.1
+returns c = let e : c.loop-k.k ≡ 0 = omega (arith, c.loop-k-test.false) in rw (← e) c.loop-k.invariant

@@ -1,41 +1,45 @@
 -- `assemble::write_contours` meets its contract.
-use Rattle.assemble.proofs.Chains.{begin, refs_length, cons_length, over, at_low, goes_here, place_low, going, fewer}
+use Rattle.assemble.proofs.Chains.{begin, over, at_low, goes_here, place_low, next_named, going, fewer}
 use native.Mathlib.Omega.{arith}
+use mathlib.Core.Path.{ap}
+use Rattle.assemble.specs.Trails.{word_of}
 use Rattle.assemble.proofs.write_contours.Goals as goal
 
-pub loop-r-init : goal.loop-r-init
-loop-r-init c = begin _ _ _ _ _ _ c.requires
+pub loop-next-init : goal.loop-next-init
+loop-next-init c = (c.requires.named, begin _ _ _ _ _ _ c.requires.chain)
 
-pub write_references-run-requires : goal.write_references-run-requires
-write_references-run-requires c =
-    let o = c.loop-r.invariant in
-    record { fact_1 = goes_here _ _ _ _ _ _ o c.loop-r-test.true; fact_2 = c.requires.begins; fact_3 = at_low _ _ _ _ _ _ o }
+pub write_references-run-requires-clause-going : goal.write_references-run-requires-clause-going
+write_references-run-requires-clause-going c =
+    let i = c.loop-next.invariant in
+    goes_here _ _ _ _ _ _ (rw c.in-Some.is at i.1) (rw c.in-Some.is at i.0)
+
+pub write_references-run-requires-clause-low : goal.write_references-run-requires-clause-low
+write_references-run-requires-clause-low c = at_low _ _ _ _ _ _ c.loop-next.invariant.1
 
 pub overflow_cast-at : goal.overflow_cast-at
-overflow_cast-at c =
-    omega (arith, at_low _ _ _ _ _ _ c.loop-r.invariant)
+overflow_cast-at c = omega (arith, at_low _ _ _ _ _ _ c.loop-next.invariant.1)
 
-pub overflow_cast-n : goal.overflow_cast-n
-overflow_cast-n c =
-    omega (arith, place_low _ _ _ _ _ _ c.loop-r.invariant c.loop-r-test.true c.write_references-run.ensures)
+pub overflow_cast-run : goal.overflow_cast-run
+overflow_cast-run c =
+    let i = c.loop-next.invariant in
+    omega (arith, place_low _ _ _ _ _ _ (rw c.in-Some.is at i.1) (rw c.in-Some.is at i.0) c.write_references-run.ensures)
 
-pub overflow_add-at : goal.overflow_add-at
-overflow_add-at c =
-    omega (arith, place_low _ _ _ _ _ _ c.loop-r.invariant c.loop-r-test.true c.write_references-run.ensures)
+pub overflow_add-d-in-Some : goal.overflow_add-d-in-Some
+overflow_add-d-in-Some c =
+    let i = c.loop-next.invariant in
+    omega (arith, place_low _ _ _ _ _ _ (rw c.in-Some.is at i.1) (rw c.in-Some.is at i.0) c.write_references-run.ensures)
 
-pub loop-r-smaller : goal.loop-r-smaller
-loop-r-smaller c =
-    fewer _ _ _ _ _ _ c.loop-r.invariant c.loop-r-test.true c.write_references-run.ensures c.put_contour.ensures
+pub loop-next-smaller : goal.loop-next-smaller
+loop-next-smaller c =
+    let i = c.loop-next.invariant in
+    rw c.in-Some.is (fewer _ _ _ _ _ _ (rw c.in-Some.is at i.1) (rw c.in-Some.is at i.0) c.write_references-run.ensures c.put_contour.ensures)
 
-pub loop-r-preserved : goal.loop-r-preserved
-loop-r-preserved c =
-    going _ _ _ _ _ _ c.loop-r.invariant c.loop-r-test.true c.write_references-run.ensures c.put_contour.ensures
-
-pub shape_of-references : goal.shape_of-references
-shape_of-references c = refs_length _ _ _ _ _ _ c.loop-r.invariant
-
-pub shape_of-contours : goal.shape_of-contours
-shape_of-contours c = cons_length _ _ _ _ _ _ c.loop-r.invariant
+pub loop-next-preserved : goal.loop-next-preserved
+loop-next-preserved c =
+    let i = c.loop-next.invariant in
+    let o = rw c.in-Some.is at i.1 in
+    let n = rw c.in-Some.is at i.0 in
+    (next_named _ _ _ _ _ _ o n c.write_references-run.ensures, going _ _ _ _ _ _ o n c.write_references-run.ensures c.put_contour.ensures)
 
 pub returns : goal.returns
-returns c = over _ _ _ _ _ _ c.loop-r.invariant c.loop-r-test.false
+returns c = over _ _ _ _ _ _ c.loop-next.invariant.1 (ap word_of c.in_default.is)

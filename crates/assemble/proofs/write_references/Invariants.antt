@@ -2,8 +2,8 @@
 use Rattle.assemble.proofs.Runs.{Sofar, left}
 use Rattle.assemble.proofs.write_references.Given as goal
 
-abbrev pub invariant-loop-trail : goal.invariant-loop-trail
-invariant-loop-trail l = Sofar l.trail l.work l.at l.r l.initial.references l.references l.q l.n
+abbrev pub invariant-loop-r : goal.invariant-loop-r
+invariant-loop-r l = Sofar l.trail l.work l.at l.r.0 l.initial.references l.references l.q.0 l.count
 
-abbrev pub decreases-loop-trail : goal.decreases-loop-trail
-decreases-loop-trail l = left l.trail l.work l.at l.r l.initial.references l.q
+abbrev pub decreases-loop-r : goal.decreases-loop-r
+decreases-loop-r l = left l.trail l.work l.at l.r.0 l.initial.references l.q.0

@@ -3,10 +3,14 @@
 use Prim.Native.Nat.{ℕ}
 use mathlib.Core.Path.{◌≡◌, sym, ap, subst, ◌∙◌}
 use mathlib.Core.Logic.{◌⊎◌}
+use native.Mathlib.Omega.{arith}
 use mathlib.Core.List.{List, [], ◌∷◌, ◌++◌, Memᴰ as In}
+use Rattle.std.specs.Prelude.{Result, Ok, Err}
 use Rattle.rules.specs.Calls.{Map, CutList, cut_list, graph_list, Check, first_hit, map_checks, graph_checks, face_checks, Outcome, call, size, graph, whole}
-use Rattle.calls.specs.declared.Answer.{Answer}
-use Rattle.calls.specs.Outcome.{outcome}
+use Rattle.calls.specs.declared.Counts.{Counts}
+use Rattle.calls.specs.declared.Refused.{Refused}
+use Rattle.calls.specs.Outcome.{answer_with, answer_of, outcome}
+use Rattle.calls.proofs.Refusals.{positive, same_number}
 use Rattle.calls.proofs.Rows.{◌⇔◌, Row, checks, numbers, None, Rising, exactly, none_applies, some_number}
 use Rattle.calls.proofs.Tables.{map_rows, graph_rows, face_rows, size_checks, graph_checks_lem, whole_checks, size_rising, graph_rising, whole_rising}
 use Rattle.calls.proofs.Settled.{Settled, number_is, settled}
@@ -59,19 +63,24 @@ every_whole m work ns ss ps rs cs fs =
     answered (map_rows m work ++ (graph_rows l ns ss ps ++ face_rows l rs cs fs)) m l work (graph_checks l ns ss ps ++ face_checks l rs cs fs) _
     (whole_rising m work l ns ss ps rs cs fs) (whole_checks m work l ns ss ps rs cs fs)
 
+-- the result of a call, from its answer
+same_counts : {n k : ℕ} {c d : Counts} → answer_with n c ≡ answer_with k d → c ≡ d
+same_counts e = λ i. record {
+  nodes = (e i).nodes;
+  segments = (e i).segments;
+  points = (e i).points;
+  references = (e i).references;
+  contours = (e i).contours;
+  faces = (e i).faces;
+  steps = (e i).steps;
+}
+
+one_result : (a b : Result Counts Refused) → answer_of a ≡ answer_of b → a ≡ b
+one_result (Ok c) (Ok d) e = ap Ok (same_counts e)
+one_result (Ok c) (Err r) e = absurd (let h = positive r.why in omega (arith, ap (λ a. a.number) e))
+one_result (Err r) (Ok d) e = absurd (let h = positive r.why in omega (arith, ap (λ a. a.number) e))
+one_result (Err r) (Err q) e = λ i. Err (record { why = same_number r.why q.why (ap (λ a. a.number) e) i; counts = same_counts e i })
+
 -- ONE OUTCOME: two results that meet a call's promise on the same input are equal, answer and all stores
-pub one_outcome : (o : Outcome) (a b : Answer) (ss ts : List (List ℕ)) → outcome a ss ≡ o → outcome b ts ≡ o → (a ≡ b) × (ss ≡ ts)
-one_outcome o a b ss ts p q =
-    let e = p ∙ sym q in (
-      λ i. record {
-        number = (e i).answer.number;
-        nodes = (e i).answer.nodes;
-        segments = (e i).answer.segments;
-        points = (e i).answer.points;
-        references = (e i).answer.references;
-        contours = (e i).answer.contours;
-        faces = (e i).answer.faces;
-        steps = (e i).answer.steps;
-      },
-      ap (λ o. o.stores) e,
-    )
+pub one_outcome : (o : Outcome) (a b : Result Counts Refused) (ss ts : List (List ℕ)) → outcome a ss ≡ o → outcome b ts ≡ o → (a ≡ b) × (ss ≡ ts)
+one_outcome o a b ss ts p q = let e = p ∙ sym q in (one_result a b (ap (λ o. o.answer) e), ap (λ o. o.stores) e)

@@ -5,9 +5,11 @@ use mathlib.Core.Logic.{⊎_elim}
 use mathlib.Core.List.{List, [], ◌∷◌}
 use native.Mathlib.Omega.{arith}
 use lib.ListN.{length, get_or, replicate, length-replicate}
+use Rattle.std.specs.Prelude.{Result}
 use Rattle.rules.specs.Calls.{Map, Accepted, cuts, cut_list, graph_list, work_words, Outcome, call, whole}
 use Rattle.lattice.specs.declared.Size.{Size}
-use Rattle.calls.specs.declared.Answer.{Answer}
+use Rattle.calls.specs.declared.Counts.{Counts}
+use Rattle.calls.specs.declared.Refused.{Refused}
 use Rattle.calls.specs.Outcome.{map_of, answer_of, outcome}
 use Rattle.calls.proofs.Called.{Stores, Called}
 use Rattle.calls.proofs.Demands.Answered.{every_whole}
@@ -73,10 +75,10 @@ can_be_called m a =
 
 -- THE PROMISE OF `whole`, word for word its `ensures`, where it answers 0
 
-pub called : (s : Size) (ls : List ℕ) (r : Answer) (b a : Stores)
+pub called : (s : Size) (ls : List ℕ) (r : Result Counts Refused) (b a : Stores)
     → outcome r (a.work ∷ a.nodes ∷ a.segments ∷ a.points ∷ a.references ∷ a.contours ∷ a.faces ∷ [])
     ≡ whole (map_of s ls) b.work b.nodes b.segments b.points b.references b.contours b.faces
-    → r.number ≡ 0 → s.paints ≤ 4294967295
+    → (answer_of r).number ≡ 0 → s.paints ≤ 4294967295
     → Called (map_of s ls)
 called s ls r b a p z w = record { before = b; answer = answer_of r; after = a; promise = p; zero = z; word = w }
 

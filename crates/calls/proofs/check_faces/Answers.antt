@@ -1,13 +1,19 @@
 -- `calls::check_faces` meets its contract.
-use mathlib.Core.Path.{ap, ◌∙◌}
 use native.Mathlib.Omega.{arith}
-use Rattle.rules.specs.Calls.{first_hit}
-use Rattle.calls.proofs.Checks.{in_turn, face_room}
+use Rattle.std.proofs.lemmas.Result.{err_from_is_err_and}
+use Rattle.calls.proofs.Checks.{first_stops, second_stops, third_decides, face_room}
 use Rattle.calls.proofs.check_faces.Goals as goal
+
+pub returns-in_err-short : goal.returns-in_err-short
+returns-in_err-short c = λ l rs cs fs k er ec ef.
+    let p = err_from_is_err_and c.from_residual.result c.from_residual.ensures.1 in
+    rw (p.1, p.2) (first_stops (face_room c.args.c l rs cs fs k er ec ef) (omega arith) _ c.in_err-short.ensures)
+
+pub returns-in_err-short-2 : goal.returns-in_err-short-2
+returns-in_err-short-2 c = λ l rs cs fs k er ec ef.
+    let p = err_from_is_err_and c.from_residual-in_err-short-2.result c.from_residual-in_err-short-2.ensures.1 in
+    rw (p.1, p.2) (second_stops (face_room c.args.c l rs cs fs k er ec ef) (omega arith) (omega arith) c.in_ok-short.ensures _ c.in_err-short-2.ensures)
 
 pub returns : goal.returns
 returns c = λ l rs cs fs k er ec ef.
-    let k0 = c.args in
-    in_turn _ _ _ (omega arith) (omega arith) c.or_else-2.ensures c.or_else.ensures
-    c.short.ensures c.short-2.ensures c.short-3.ensures
-    ∙ rw (← er, ← ec, ← ef) (ap first_hit (face_room k0.a l rs cs fs k))
+    third_decides (face_room c.args.c l rs cs fs k er ec ef) (omega arith) (omega arith) c.in_ok-short.ensures c.in_ok-short-2.ensures c.short-3.ensures

@@ -4,14 +4,17 @@ use native.Mathlib.Omega.{arith}
 use Prim.Native.Nat.{◌+◌}
 use Rattle.calls.specs.Outcome.{map_of}
 use Rattle.calls.proofs.Checks.{too_wide, too_high, wrong_count, short_work, none_early}
+use Rattle.calls.proofs.check_map.Goals.{then-s-gt16384-via-then-s-gt16384, then-s-gt16384-via-else-s-gt16384+then-s-gt16384-2}
 use Rattle.calls.proofs.check_map.Goals as goal
 
 pub returns-then-s-gt16384 : goal.returns-then-s-gt16384
-returns-then-s-gt16384 c = let a = c.args in too_wide (map_of a.s a.labels.now) a.work.now c.if-s-gt16384.true
-
-pub returns-then-s-gt16384-2 : goal.returns-then-s-gt16384-2
-returns-then-s-gt16384-2 c =
-    let a = c.args in too_high (map_of a.s a.labels.now) a.work.now c.if-s-gt16384.false c.if-s-gt16384-2.true
+returns-then-s-gt16384 c =
+    let a = c.args in
+    let m = map_of a.s a.labels.now in
+    elim c.then-s-gt16384.branch [
+      | then-s-gt16384-via-then-s-gt16384 w ↦ too_wide m a.work.now w.if-s-gt16384.true
+      | then-s-gt16384-via-else-s-gt16384+then-s-gt16384-2 w ↦ too_high m a.work.now w.if-s-gt16384.false w.if-s-gt16384-2.true
+    ]
 
 pub overflow_mul-s : goal.overflow_mul-s
 overflow_mul-s c = omega (arith, mul-le-mul c.if-s-gt16384.false c.if-s-gt16384-2.false)

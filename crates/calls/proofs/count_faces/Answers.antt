@@ -4,4 +4,4 @@ use Rattle.calls.proofs.count_faces.Goals as goal
 
 pub returns : goal.returns
 returns c =
-    rw c.answer_whole.ensures (faces_counted c.requires.fact_3 c.count-f.ensures)
+    rw c.whole_counts.ensures (faces_counted c.requires.graph c.count-f.ensures)

@@ -1,37 +1,37 @@
 -- `calls::size` meets its contract.
-use mathlib.Core.Path.{sym, ap, ◌∙◌}
+use mathlib.Core.Path.{sym}
 use native.Mathlib.Omega.{arith}
-use Rattle.rules.specs.Calls.{refused}
+use Rattle.std.proofs.lemmas.Result.{err_from_is_err_and}
 use Rattle.calls.proofs.Calls.{map_passed, planes_passed, size_refused, size_answered}
 use Rattle.calls.proofs.size.Goals as goal
 
-pub returns-then-early-ne0 : goal.returns-then-early-ne0
-returns-then-early-ne0 c =
+pub returns-in_err-check_map : goal.returns-in_err-check_map
+returns-in_err-check_map c =
     let a = c.args in
-    let early = c.check_map-early.ensures in
-    size_refused a.s a.labels.now a.work.now _ (λ z. c.if-early-ne0.true (early ∙ z)) (c.refuse.ensures ∙ ap refused early)
+    let p = err_from_is_err_and c.from_residual.result c.from_residual.ensures.1 in
+    rw (p.1, p.2) (size_refused a.s a.labels.now a.work.now _ c.in_err-check_map.ensures)
 
 pub count_graph-c-requires : goal.count_graph-c-requires
 count_graph-c-requires c =
     let a = c.args in
-    let early = c.check_map-early.ensures in
-    record { fact_1 = map_passed a.s a.labels.now a.work.now _ early c.if-early-ne0.false; fact_2 = planes_passed a.s a.labels.now a.work.now _ early c.if-early-ne0.false }
+    let z = sym c.in_ok-check_map.ensures in
+    record { map = map_passed a.s a.labels.now a.work.now z; planes = planes_passed a.s a.labels.now a.work.now z }
 
-pub count_faces-a-requires : goal.count_faces-a-requires
-count_faces-a-requires c =
+pub count_faces-counts-requires : goal.count_faces-counts-requires
+count_faces-counts-requires c =
     let a = c.args in
-    let early = c.check_map-early.ensures in
-    let counted = c.count_graph-c.ensures in
-    record { fact_1 = map_passed a.s a.labels.now a.work.now _ early c.if-early-ne0.false; fact_2 = omega (arith, planes_passed a.s a.labels.now a.work.now _ early c.if-early-ne0.false, counted.1.long); fact_3 = counted.0 }
+    let z = sym c.in_ok-check_map.ensures in
+    let k = c.count_graph-c.ensures in
+    record { map = map_passed a.s a.labels.now a.work.now z; planes = omega (arith, planes_passed a.s a.labels.now a.work.now z, k.1.long); graph = k.0 }
 
 pub clear-requires : goal.clear-requires
 clear-requires c =
     let a = c.args in
-    let early = c.check_map-early.ensures in
-    let map = map_passed a.s a.labels.now a.work.now _ early c.if-early-ne0.false in
-    (map.wide, map.high, omega (arith, planes_passed a.s a.labels.now a.work.now _ early c.if-early-ne0.false, c.count_graph-c.ensures.1.long, c.count_faces-a.ensures.kept.long))
+    let z = sym c.in_ok-check_map.ensures in
+    let map = map_passed a.s a.labels.now a.work.now z in
+    (map.wide, map.high, omega (arith, planes_passed a.s a.labels.now a.work.now z, c.count_graph-c.ensures.1.long, c.count_faces-counts.ensures.kept.long))
 
 pub returns : goal.returns
 returns c =
     let a = c.args in
-    size_answered a.s a.labels.now a.work.now _ _ _ _ _ (sym c.check_map-early.ensures ∙ c.if-early-ne0.false) c.count_graph-c.ensures c.count_faces-a.ensures c.clear.ensures
+    size_answered a.s a.labels.now a.work.now (sym c.in_ok-check_map.ensures) c.count_graph-c.ensures c.count_faces-counts.ensures c.clear.ensures

@@ -11,7 +11,9 @@ use native.Mathlib.Decide.{ℕ_discrete}
 use lib.Dec.{eqb}
 use lib.ListN.{length, get_or, set, length-set}
 use lib.Seq.{get_or-set_same, get_or-set_other}
-use Rattle.rules.specs.Picture.{Dir, N, E, S, W, code, Dart, dart}
+use Rattle.rules.specs.Picture.{code, Dart, dart}
+use Rattle.rules.specs.declared.Dir.{Dir}
+use Rattle.rules.specs.declared.Dir.TheVariants.{N, E, S, W}
 use Rattle.lattice.specs.Planes.{place}
 use Rattle.face.specs.Contours.{east_marked, easts_marked}
 

@@ -12,7 +12,8 @@ use native.Mathlib.Omega.{arith}
 use native.Mathlib.Decide.{dec_lt}
 use lib.ListN.{length, get_or, length-append}
 use Rattle.rules.specs.Lists.{flat}
-use Rattle.rules.specs.Picture.{Picture, picture, OUTSIDE, E, Dart, dart, crack}
+use Rattle.rules.specs.Picture.{Picture, picture, OUTSIDE, Dart, dart, crack}
+use Rattle.rules.specs.declared.Dir.TheVariants.{E}
 use Rattle.rules.proofs.Lattice.Darts.{crack_x, crack_y}
 use Rattle.rules.proofs.Ground.Lists.{flat_snoc}
 use Rattle.rules.proofs.Ground.Sums.{sum_append}

@@ -5,16 +5,16 @@ use mathlib.Core.Logic.{◌⊎◌, inl, inr}
 use Prim.Native.Nat.{ℕ, suc, ◌+◌, ◌*◌, ◌/◌, ◌%◌, ◌≤◌, ◌<◌}
 use native.Mathlib.Omega.{arith}
 use native.Mathlib.Decide.{ℕ_discrete}
-use native.Mathlib.Nat.{div-add-mod', suc-mul, mul-add-mod_self_right, mod-eq_of_lt, not-suc-le-zero}
+use native.Mathlib.Nat.{suc-mul, mul-add-mod_self_right, mod-eq_of_lt, not-suc-le-zero, mul_comm}
 use lib.ListN.{length, get_or, set, length-set}
 use lib.Seq.{get_or-set_same, get_or-set_other}
 use Rattle.rules.specs.Picture.{seen, picture, OUTSIDE}
 use Rattle.rules.specs.Face.{label_of}
 use Rattle.rules.proofs.Islands.Joined.{Step, Joined, here, back}
-use Rattle.rules.proofs.Islands.Pixels.{label_of_is, width_pos, column_in, right_column}
+use Rattle.rules.proofs.Islands.Pixels.{label_of_is}
 use Rattle.store.proofs.Writes.{kept_none, kept_then, kept_set}
 use Rattle.face.specs.declared.islands.Plan.{Plan}
-use Rattle.face.specs.Islands.{no_island, area, view, number, Inside, Sizes, Forest, Tied, Met, Over, LeftOf, Above, Hand, Linked, Links, NextColumn}
+use Rattle.face.specs.Islands.{no_island, area, view, number, Inside, Sizes, Forest, Tied, Met, Over, LeftOf, Above, Hand, Linked, Links}
 use Rattle.face.proofs.islands.Trees.{tied_back, tied_here, tied_grown}
 use Rattle.face.proofs.islands.Neighbours.{row_before, column_before, met_both, met_leaf}
 
@@ -129,39 +129,16 @@ module _ {m : Plan} {ls work : List ℕ} where
     kept = kept_none;
   }
 
-  pub links_then : {p : ℕ} {a b : List ℕ} → Links m 0 ls work p a → Links m p ls a (suc p) b → Links m 0 ls work (suc p) b
+  pub links_then : {i j k : ℕ} {a b : List ℕ} → Links m i ls work j a → Links m j ls a k b → Links m i ls work k b
   links_then f g = record { linked = g.linked; kept = kept_then f.kept g.kept }
 
--- the column of the next pixel
-pub next_column : {w p x r : ℕ} (h : ℕ) → p < w * h → x ≡ p % w → NextColumn w x r → r ≡ suc p % w
-next_column {w} {p} {x} {r} h l e n =
-    elim (ℕ_discrete (suc x) w) [
-      | yes z ↦ n.wraps z ∙ sym (ends z)
-      | no d ↦ n.goes d ∙ ap suc e ∙ sym (goes_on d)
-    ]
-  where
-    ends : suc x ≡ w → suc p % w ≡ 0
-    ends z =
-        let is : suc p ≡ suc (p / w) * w + 0 = omega (arith, div-add-mod' p w, suc-mul (p / w) w, e, z) in
-        ap (λ (i : ℕ). i % w) is ∙ mul-add-mod_self_right (suc (p / w)) w 0 ∙ mod-eq_of_lt (width_pos w h p l)
+-- THE LOOPS: rows, and the pixels of a row
 
-    goes_on : (suc x ≡ w → ⊥) → suc p % w ≡ suc (p % w)
-    goes_on d = let is : p + 1 ≡ suc p = omega arith in rw is at (right_column w h p l (omega (arith, column_in w h p l, e, d)))
+pub column_is : (w x y : ℕ) → x < w → x ≡ (y * w + x) % w
+column_is w x y k = sym (mul-add-mod_self_right y w x ∙ mod-eq_of_lt k)
 
--- THE LOOP, at the pixel p in the column x
+pub row_end : (w x y : ℕ) → w ≤ x → x ≤ w → y * w + x ≡ (y + 1) * w
+row_end w x y h k = let e : y + 1 ≡ suc y = omega arith in rw e (omega (arith, suc-mul y w))
 
-pub record Linking (m : Plan) (ls work : List ℕ) (x p : ℕ) (work' : List ℕ) : Type 0 where
-  pub links : Links m 0 ls work p work'
-  pub within : p ≤ area m
-  pub column : p < area m → x ≡ p % m.width
-
-module _ {m : Plan} {ls work : List ℕ} where
-  pub linking_start : Sizes m ls work → Linking m ls work 0 0 work
-  linking_start s = record { links = links_none s; within = omega arith; column = λ l. sym (mod-eq_of_lt (width_pos m.width m.height 0 l)) }
-
-  module _ {x p : ℕ} {work₁ : List ℕ} (t : Linking m ls work x p work₁) (l : p < area m) where
-    pub column_inside : x < m.width
-    column_inside = omega (arith, t.column l, column_in m.width m.height p l)
-
-    pub linking_next : {r : ℕ} {work₂ : List ℕ} → Links m p ls work₁ (suc p) work₂ → NextColumn m.width x r → Linking m ls work r (suc p) work₂
-    linking_next f n = record { links = links_then t.links f; within = l; column = λ _. next_column m.height l (t.column l) n }
+pub rows_end : (w h y : ℕ) → h ≤ y → y ≤ h → y * w ≡ w * h
+rows_end w h y p q = let e : y ≡ h = omega arith in rw e (mul_comm h w)

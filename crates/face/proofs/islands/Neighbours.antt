@@ -1,8 +1,12 @@
 -- The neighbours before a pixel: which there are, and that those with its label come into its tree.
 use mathlib.Core.Path.{◌≡◌, refl, sym, ◌∙◌, ap, subst}
 use mathlib.Core.List.{List}
+use lib.Dec.{ltb}
 use mathlib.Core.Logic.{◌⊎◌, inl, inr}
-use Prim.Native.Nat.{ℕ, suc, ◌+◌, ◌*◌, ◌-◌, ◌/◌, ◌%◌, ◌≤◌, ◌<◌}
+use Rattle.std.specs.Prelude.{Option, Some, None}
+use Rattle.std.proofs.lemmas.Option.{none-some, same_Some, cond_some}
+use borrow.Author.Tests.{lt-ltb, ltb-true}
+use Prim.Native.Nat.{ℕ, min, max, suc, ◌+◌, ◌*◌, ◌-◌, ◌/◌, ◌%◌, ◌≤◌, ◌<◌}
 use native.Mathlib.Omega.{arith}
 use native.Mathlib.Decide.{ℕ_discrete, dec_lt}
 use native.Mathlib.Nat.{div-eq_of_lt, add-mod_right, div-add-mod', suc-mul, mod-le}
@@ -11,7 +15,7 @@ use Rattle.rules.specs.Picture.{seen, picture}
 use Rattle.rules.proofs.Islands.Joined.{Step, here, step}
 use Rattle.rules.proofs.Islands.Pixels.{label_of_is, column_in, left_column, left_row, right_column, right_row, below_row, same_pixel}
 use Rattle.face.specs.declared.islands.Plan.{Plan}
-use Rattle.face.specs.Islands.{area, view, number, Tied, Grown, Leaf, Rooted, Met, Before, Over, LeftOf, RightOf, Above, Hand}
+use Rattle.face.specs.Islands.{area, view, number, Tied, Grown, Leaf, Rooted, Met, Before, Over, beside_left, beside_right, LeftOf, RightOf, Above, Hand}
 use Rattle.face.proofs.islands.Trees.{tied_to, tied_grown, grown_none, grown_then, below_first, below_second}
 
 -- PLACES
@@ -56,11 +60,17 @@ module _ {m : Plan} {p : ℕ} {ls work : List ℕ} (l : Leaf m (suc p) ls work p
 pub met_other : {m : Plan} {p q : ℕ} {ls work : List ℕ} → Leaf m (suc p) ls work p → (seen m.bound (get_or ls q 0) ≡ seen m.bound (get_or ls p 0) → ⊥) → Met m p ls work work (λ r. r ≡ q)
 met_other {m} {p} {q} {ls} l n = met_none l (λ z e s. other_label l n (subst (Step (view m ls) p) e s))
 
+pub met_nobody : {m : Plan} {p : ℕ} {ls work : List ℕ} {o : Option ℕ} → Leaf m (suc p) ls work p → o ≡ None → Met m p ls work work (λ r. o ≡ Some r)
+met_nobody l e = met_none l (λ q i s. absurd (none-some q (sym e ∙ i)))
+
 pub met_one : {m : Plan} {p q : ℕ} {ls work work' : List ℕ} → Grown m (suc p) ls work work' × Tied m (suc p) ls work' p q → Met m p ls work work' (λ r. r ≡ q)
 met_one {m} {p} {q} {ls} {work} {work'} t = record { grown = t.0; hits = λ z e s. subst (Tied m (suc p) ls work' p) (sym e) t.1 }
 
 pub met_as : {m : Plan} {p : ℕ} {ls work work' : List ℕ} {S T : ℕ → Type 0} → Met m p ls work work' S → ((q : ℕ) → T q → Step (view m ls) p q → S q) → Met m p ls work work' T
 met_as f t = record { grown = f.grown; hits = λ q i s. f.hits q (t q i s) s }
+
+pub met_some : {m : Plan} {p q : ℕ} {ls work work' : List ℕ} → Met m p ls work work' (λ r. r ≡ q) → Met m p ls work work' (λ r. Some q ≡ Some r)
+met_some {q = q} f = met_as f (λ r i s. sym (same_Some q r i))
 
 pub met_both : {m : Plan} {p : ℕ} {ls a b c : List ℕ} {S T : ℕ → Type 0} → Met m p ls a b S → Met m p ls b c T → Met m p ls a c (λ q. S q ⊎ T q)
 met_both {m} {p} {ls} {a} {b} {c} {S} {T} f g = record { grown = grown_then f.grown g.grown; hits = λ q i s. go q i s }
@@ -88,21 +98,24 @@ module _ {m : Plan} {x p at : ℕ} {ls work : List ℕ} (l : Leaf m (suc p) ls w
     pub at_some : 0 < at
     at_some = omega (arith, mod-le at m.width, o.straight)
 
-    pub left_before : Before m p (at - 1)
+    left_before : Before m p (at - 1)
     left_before = record { earlier = omega (arith, o.earlier, at_some); right = omega (arith, to_left, o.straight, o.column); left = omega (arith, to_left, o.straight, o.column); down = omega (arith, to_left, o.down); up = omega (arith, to_left, o.up) }
 
-    pub left_met : {work' : List ℕ} → Met m p ls work work' (λ r. r ≡ at - 1) → Met m p ls work work' (LeftOf m at)
-    left_met f = met_as f (λ q i s. same_pixel m.width q (at - 1) (omega (arith, i.0, to_left.0)) (i.1 ∙ sym to_left.1))
+    left_is : (q : ℕ) → LeftOf m at q → at - 1 ≡ q
+    left_is q i = sym (same_pixel m.width q (at - 1) (omega (arith, i.0, to_left.0)) (i.1 ∙ sym to_left.1))
 
-  pub right_none : m.width ≤ x + 1 → Met m p ls work work (RightOf m at)
-  unfolding picture
-  right_none k = met_none l (λ q i s. omega (arith, i.0, o.straight, column_in m.width m.height q s.end))
+  -- the pixel on the left, if there is one, is a neighbour, and the only one there
+  pub left_asks : (r : ℕ) → beside_left x at ≡ Some r → Before m p r
+  left_asks r e = let k = cond_some (ltb 0 x) (at - 1) r e in subst (Before m p) k.1 (left_before (ltb-true 0 x k.0))
+
+  pub left_met : {work' : List ℕ} → Met m p ls work work' (λ r. beside_left x at ≡ Some r) → Met m p ls work work' (LeftOf m at)
+  left_met f = met_as f (λ q i s. let k : 0 < x = omega (arith, i.0, o.straight) in rw (lt-ltb 0 x k, left_is k q i) refl)
 
   module _ (k : x + 1 < m.width) where
     to_right : ((at + 1) % m.width ≡ suc (at % m.width)) × ((at + 1) / m.width ≡ at / m.width)
     to_right = let c : suc (at % m.width) < m.width = omega (arith, o.straight) in (right_column m.width m.height at at_in c, right_row m.width m.height at at_in c)
 
-    pub right_before : Above m p at → Before m p (at + 1)
+    right_before : Above m p at → Before m p (at + 1)
     right_before a = record {
       earlier = row_before m.width m.height (at + 1) p (omega (arith, row_before m.width m.height at p at_in a, leaf_in l)) (omega (arith, a, to_right.1));
       right = omega (arith, to_right, o.straight, o.column);
@@ -111,8 +124,15 @@ module _ {m : Plan} {x p at : ℕ} {ls work : List ℕ} (l : Leaf m (suc p) ls w
       up = omega (arith, to_right, o.up);
     }
 
-    pub right_met : {work' : List ℕ} → Met m p ls work work' (λ r. r ≡ at + 1) → Met m p ls work work' (RightOf m at)
-    right_met f = met_as f (λ q i s. same_pixel m.width q (at + 1) (i.0 ∙ sym to_right.0) (i.1 ∙ sym to_right.1))
+    right_is : (q : ℕ) → RightOf m at q → at + 1 ≡ q
+    right_is q i = sym (same_pixel m.width q (at + 1) (i.0 ∙ sym to_right.0) (i.1 ∙ sym to_right.1))
+
+  pub right_asks : Above m p at → (r : ℕ) → beside_right m.width x at ≡ Some r → Before m p r
+  right_asks a r e = let k = cond_some (ltb (x + 1) m.width) (at + 1) r e in subst (Before m p) k.1 (right_before (ltb-true (x + 1) m.width k.0) a)
+
+  pub right_met : {work' : List ℕ} → Met m p ls work work' (λ r. beside_right m.width x at ≡ Some r) → Met m p ls work work' (RightOf m at)
+  unfolding picture
+  right_met f = met_as f (λ q i s. let k : x + 1 < m.width = omega (arith, i.0, o.straight, column_in m.width m.height q s.end) in rw (lt-ltb (x + 1) m.width k, right_is k q i) refl)
 
 -- a neighbour in the row of `at`, which stands in the column of p
 in_row : {m : Plan} {x p at : ℕ} (ls : List ℕ) → Over m x p at → (q : ℕ) → q / m.width ≡ at / m.width → Step (view m ls) p q → (q ≡ at) ⊎ (LeftOf m at q ⊎ RightOf m at q)
@@ -213,8 +233,16 @@ module _ {m : Plan} {p q : ℕ} {ls work : List ℕ} (l : Leaf m (suc p) ls work
     second_leaf = record { forest = ra.grown.forest; within = omega (arith, h.earlier); inside = λ z. l.inside ((step_before l h e).same ∙ z) }
 
     module _ {b : ℕ} {work₂ : List ℕ} (rb : Rooted m (suc p) ls q work₁ b work₂) where
-      pub joined_first : a < b → Met m p ls work (set work₂ (m.ids + b) a) (λ r. r ≡ q)
+      joined_first : a < b → Met m p ls work (set work₂ (m.ids + b) a) (λ r. r ≡ q)
       joined_first k = met_one (below_first l (omega (arith, h.earlier)) (step (step_before l h e) here) ra rb k)
 
-      pub joined_second : b ≤ a → Met m p ls work (set work₂ (m.ids + a) b) (λ r. r ≡ q)
+      joined_second : b ≤ a → Met m p ls work (set work₂ (m.ids + a) b) (λ r. r ≡ q)
       joined_second k = met_one (below_second l (omega (arith, h.earlier)) (step (step_before l h e) here) ra rb k)
+
+      -- the greater root comes under the lesser one
+      pub joined : Met m p ls work (set work₂ (m.ids + max a b) (min a b)) (λ r. r ≡ q)
+      joined =
+          elim (dec_lt a b) [
+            | yes k ↦ let u : max a b ≡ b = omega arith in let v : min a b ≡ a = omega arith in rw (u, v) (joined_first k)
+            | no k ↦ let u : max a b ≡ a = omega arith in let v : min a b ≡ b = omega arith in rw (u, v) (joined_second (omega arith))
+          ]

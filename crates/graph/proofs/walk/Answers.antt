@@ -5,33 +5,24 @@ use Rattle.rules.specs.Graph.{ending}
 use Rattle.lattice.proofs.Ways.{edge_corner}
 use Rattle.lattice.specs.Walker.{dart_of}
 use Rattle.lattice.specs.Size.{pic}
-use Rattle.graph.proofs.Along.{begin, edge, long, work_length, steps_low, stop_said, around_ahead, going, gone}
+use Rattle.graph.proofs.Along.{edge_ahead, begin, edge, long, steps_low, stop_said, around_ahead, going, gone}
 use Rattle.graph.proofs.walk.Goals as goal
 
 pub loop-s-init : goal.loop-s-init
-loop-s-init c = begin _ _ _ _ _ _ c.requires.fact_1
+loop-s-init c = begin _ _ _ _ _ _ c.requires.starts
 
-pub mark_visited-requires : goal.mark_visited-requires
-mark_visited-requires c =
-    let o = c.loop-s.invariant in
-    let n = work_length _ _ _ _ _ _ o in
-    let p = c.requires.fact_2 in
-    let m = c.requires.fact_1.map in
-    record { fact_1 = record { wide = m.wide; high = m.high }; fact_2 = edge _ _ _ _ _ _ o; fact_3 = omega arith }
+pub mark_visited-requires-clause-edge : goal.mark_visited-requires-clause-edge
+mark_visited-requires-clause-edge c = edge _ _ _ _ _ _ c.loop-s.invariant
 
 pub overflow_add-steps : goal.overflow_add-steps
 overflow_add-steps c =
-    omega (arith, long _ _ _ _ _ _ c.loop-s.invariant, steps_low c.args.s c.args.labels.now c.args.w c.requires.fact_1.map)
+    omega (arith, long _ _ _ _ _ _ c.loop-s.invariant, steps_low c.args.s c.args.labels.now c.args.w c.requires.starts.map)
 
 pub moved-m-requires : goal.moved-m-requires
-moved-m-requires c =
-    let e = edge _ _ _ _ _ _ c.loop-s.invariant in
-    let p = c.requires.fact_1.map in
-    record { way = e.way; across = omega arith; down = omega arith; north = e.north; west = e.west }
+moved-m-requires c = edge_ahead c.requires.starts.map (edge _ _ _ _ _ _ c.loop-s.invariant)
 
-pub look-a-requires : goal.look-a-requires
-look-a-requires c =
-    record { fact_1 = c.requires.fact_1.map; fact_2 = rw c.moved-m.ensures (edge_corner _ _ (edge _ _ _ _ _ _ c.loop-s.invariant)) }
+pub look-a-requires-clause-corner : goal.look-a-requires-clause-corner
+look-a-requires-clause-corner c = rw c.moved-m.ensures (edge_corner _ _ (edge _ _ _ _ _ _ c.loop-s.invariant))
 
 pub returns-then-stops : goal.returns-then-stops
 returns-then-stops c =
@@ -39,10 +30,7 @@ returns-then-stops c =
     gone _ _ _ _ _ _ c.loop-s.invariant c.mark_visited.ensures c.moved-m.ensures c.put_point.ensures (sym e ∙ c.if-stops.true)
 
 pub step-c-requires : goal.step-c-requires
-step-c-requires c =
-    let e = edge _ _ _ _ _ _ c.loop-s.invariant in
-    let p = c.requires.fact_1.map in
-    record { way = e.way; across = omega arith; down = omega arith; north = e.north; west = e.west }
+step-c-requires c = edge_ahead c.requires.starts.map (edge _ _ _ _ _ _ c.loop-s.invariant)
 
 pub loop-s-preserved : goal.loop-s-preserved
 loop-s-preserved c =

@@ -1,32 +1,43 @@
 -- `jobwrite::write` meets its contract.
 use mathlib.Core.Path.{refl, ap, ◌∙◌}
+use Rattle.std.proofs.lemmas.Result.{err_from_is_err_and}
+use Rattle.rules.specs.Refusals.{number_in}
 use Rattle.rules.specs.Calls.{cut_list}
 use Rattle.calls.specs.Outcome.{map_with}
 use Rattle.jobs.specs.Writes.{size_of}
-use Rattle.jobwrite.proofs.Answering.{counts, number_late, early_answered, late_answered, fine_answered}
+use Rattle.jobwrite.proofs.Answering.{counts, room_late, early_answered, late_answered, not_refused, fine_answered}
 use Rattle.jobwrite.proofs.write.Goals as goal
 
-pub returns-then-a-ne0 : goal.returns-then-a-ne0
-returns-then-a-ne0 c =
+pub returns-in_err-counted : goal.returns-in_err-counted
+returns-in_err-counted c =
     let a = c.args in
-    early_answered a.width a.height a.paints a.labels.now a.work.now a.nodes.now a.segments.now a.points.now a.references.now a.contours.now a.faces.now a.file.now
-    c.size-a.result _ c.size-a.ensures c.if-a-ne0.true
+    let p = err_from_is_err_and c.from_residual.result c.from_residual.ensures.1 in
+    rw (p.1, p.2) (early_answered a.width a.height a.paints a.labels.now a.work.now a.nodes.now a.segments.now a.points.now a.references.now a.contours.now a.faces.now a.file.now _ c.in_err-counted.ensures)
 
-pub returns-then-number-ne0 : goal.returns-then-number-ne0
-returns-then-number-ne0 c =
+pub returns-in_err-answer : goal.returns-in_err-answer
+returns-in_err-answer c =
     let a = c.args in
-    let counts = counts a.width a.height a.paints a.labels.now a.work.now a.nodes.now a.segments.now a.points.now a.references.now a.contours.now a.faces.now a.file.now c.size-a.result _ c.size-a.ensures c.if-a-ne0.false in
-    let lacks = c.check_all-lacks.ensures (cut_list (map_with a.width a.height a.paints a.paints a.labels.now)) a.nodes.now a.segments.now a.points.now a.references.now a.contours.now a.faces.now counts refl refl refl refl refl refl in
-    let number = number_late a.width a.height a.paints a.labels.now a.work.now a.nodes.now a.segments.now a.points.now a.references.now a.contours.now a.faces.now a.file.now c.size-a.result _ c.size-a.ensures c.if-a-ne0.false _ _ _ _ lacks (c.file_size.ensures ∙ ap size_of c.job-j.ensures) c.check_file-refusal.ensures c.or_else-number.ensures in
-    late_answered a.width a.height a.paints a.labels.now a.work.now a.nodes.now a.segments.now a.points.now a.references.now a.contours.now a.faces.now a.file.now
-    c.size-a.result _ c.size-a.ensures c.if-a-ne0.false _ number c.if-number-ne0.true
+    let counted = c.in_ok-counted in
+    let counts = counts a.width a.height a.paints a.labels.now a.work.now a.nodes.now a.segments.now a.points.now a.references.now a.contours.now a.faces.now a.file.now counted.counted counted.ensures in
+    let held = c.check_all-stores.ensures (cut_list (map_with a.width a.height a.paints a.paints a.labels.now)) a.nodes.now a.segments.now a.points.now a.references.now a.contours.now a.faces.now counts refl refl refl refl refl refl in
+    let number = ap number_in c.and.ensures ∙ room_late a.width a.height a.paints a.labels.now a.work.now a.nodes.now a.segments.now a.points.now a.references.now a.contours.now a.faces.now a.file.now counted.counted counted.ensures c.check_all-stores.result c.check_file-store.result held (c.file_size.ensures ∙ ap size_of c.job-j.ensures) c.check_file-store.ensures in
+    let p = err_from_is_err_and c.from_residual-in_err-answer.result c.from_residual-in_err-answer.ensures.1 in
+    rw (p.1, p.2) (late_answered a.width a.height a.paints a.labels.now a.work.now a.nodes.now a.segments.now a.points.now a.references.now a.contours.now a.faces.now a.file.now counted.counted counted.ensures c.and.result number _ c.in_err-answer.ensures)
+
+pub returns-in_err-counts : goal.returns-in_err-counts
+returns-in_err-counts c =
+    let a = c.args in
+    let counted = c.in_ok-counted in
+    let counts = counts a.width a.height a.paints a.labels.now a.work.now a.nodes.now a.segments.now a.points.now a.references.now a.contours.now a.faces.now a.file.now counted.counted counted.ensures in
+    let held = c.check_all-stores.ensures (cut_list (map_with a.width a.height a.paints a.paints a.labels.now)) a.nodes.now a.segments.now a.points.now a.references.now a.contours.now a.faces.now counts refl refl refl refl refl refl in
+    let number = ap number_in c.and.ensures ∙ room_late a.width a.height a.paints a.labels.now a.work.now a.nodes.now a.segments.now a.points.now a.references.now a.contours.now a.faces.now a.file.now counted.counted counted.ensures c.check_all-stores.result c.check_file-store.result held (c.file_size.ensures ∙ ap size_of c.job-j.ensures) c.check_file-store.ensures in
+    absurd (not_refused a.width a.height a.paints a.labels.now a.work.now a.nodes.now a.segments.now a.points.now a.references.now a.contours.now a.faces.now a.file.now counted.counted counted.ensures c.and.result number c.in_ok-answer.ensures _ c.in_err-counts.ensures refl)
 
 pub returns : goal.returns
 returns c =
     let a = c.args in
-    let counts = counts a.width a.height a.paints a.labels.now a.work.now a.nodes.now a.segments.now a.points.now a.references.now a.contours.now a.faces.now a.file.now c.size-a.result _ c.size-a.ensures c.if-a-ne0.false in
-    let lacks = c.check_all-lacks.ensures (cut_list (map_with a.width a.height a.paints a.paints a.labels.now)) a.nodes.now a.segments.now a.points.now a.references.now a.contours.now a.faces.now counts refl refl refl refl refl refl in
-    let number = number_late a.width a.height a.paints a.labels.now a.work.now a.nodes.now a.segments.now a.points.now a.references.now a.contours.now a.faces.now a.file.now c.size-a.result _ c.size-a.ensures c.if-a-ne0.false _ _ _ _ lacks (c.file_size.ensures ∙ ap size_of c.job-j.ensures) c.check_file-refusal.ensures c.or_else-number.ensures in
-    fine_answered a.width a.height a.paints a.labels.now a.work.now a.nodes.now a.segments.now a.points.now a.references.now a.contours.now a.faces.now a.file.now
-    c.size-a.result _ c.size-a.ensures c.if-a-ne0.false _ number c.if-number-ne0.false
-    c.whole-done.result _ _ _ _ _ _ _ c.whole-done.ensures _ _ _ c.job-j.ensures c.put_file-end.ensures
+    let counted = c.in_ok-counted in
+    let counts = counts a.width a.height a.paints a.labels.now a.work.now a.nodes.now a.segments.now a.points.now a.references.now a.contours.now a.faces.now a.file.now counted.counted counted.ensures in
+    let held = c.check_all-stores.ensures (cut_list (map_with a.width a.height a.paints a.paints a.labels.now)) a.nodes.now a.segments.now a.points.now a.references.now a.contours.now a.faces.now counts refl refl refl refl refl refl in
+    let number = ap number_in c.and.ensures ∙ room_late a.width a.height a.paints a.labels.now a.work.now a.nodes.now a.segments.now a.points.now a.references.now a.contours.now a.faces.now a.file.now counted.counted counted.ensures c.check_all-stores.result c.check_file-store.result held (c.file_size.ensures ∙ ap size_of c.job-j.ensures) c.check_file-store.ensures in
+    fine_answered a.width a.height a.paints a.labels.now a.work.now a.nodes.now a.segments.now a.points.now a.references.now a.contours.now a.faces.now a.file.now counted.counted counted.ensures c.and.result number c.in_ok-answer.ensures _ c.in_ok-counts.ensures refl _ _ _ c.job-j.ensures c.put_file-end.ensures

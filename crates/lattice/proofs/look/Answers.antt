@@ -6,12 +6,10 @@ use Rattle.lattice.proofs.look.Goals as goal
 pub returns : goal.returns
 returns c =
     let a = c.args in
-    let w = c.wrapping_sub_u32-west.result in
-    let n = c.wrapping_sub_u32-north.result in
     let back = one_back a.s.width a.s.height a.s.bound a.labels.now in
     λ i. record {
-      nw = (c.label-nw.ensures ∙ back a.x a.y w n (omega arith) (omega arith) (omega arith) (omega arith) (omega arith) (omega arith)) i;
-      ne = (c.label-ne.ensures ∙ back (suc a.x) a.y a.x n (omega arith) (omega arith) (omega arith) (omega arith) (omega arith) (omega arith)) i;
-      sw = (c.label-sw.ensures ∙ back a.x (suc a.y) w a.y (omega arith) (omega arith) (omega arith) (omega arith) (omega arith) (omega arith)) i;
+      nw = (c.label-nw.ensures ∙ back a.x a.y _ _ (omega arith) (omega arith) (omega arith) (omega arith) (omega arith) (omega arith)) i;
+      ne = (c.label-ne.ensures ∙ back (suc a.x) a.y a.x _ (omega arith) (omega arith) (omega arith) (omega arith) (omega arith) (omega arith)) i;
+      sw = (c.label-sw.ensures ∙ back a.x (suc a.y) _ a.y (omega arith) (omega arith) (omega arith) (omega arith) (omega arith) (omega arith)) i;
       se = (c.label-se.ensures ∙ back (suc a.x) (suc a.y) a.x a.y (omega arith) (omega arith) (omega arith) (omega arith) (omega arith) (omega arith)) i;
     }

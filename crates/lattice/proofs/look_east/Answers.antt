@@ -9,11 +9,10 @@ pub returns : goal.returns
 returns c =
     let a = c.args in
     let P = pic a.s a.labels.now in
-    let n = c.wrapping_sub_u32-north.result in
     let back = one_back a.s.width a.s.height a.s.bound a.labels.now in
     λ i. record {
-      nw = (ap (λ (q : Around). q.ne) c.requires.fact_3 ∙ ap (λ (x : ℕ). P.nw x a.y) (sym (add-one a.x))) i;
-      ne = (c.label-ne.ensures ∙ back (suc (a.x + 1)) a.y (a.x + 1) n (omega arith) (omega arith) (omega arith) (omega arith) (omega arith) (omega arith)) i;
-      sw = (ap (λ (q : Around). q.se) c.requires.fact_3 ∙ ap (λ (x : ℕ). P.nw x (suc a.y)) (sym (add-one a.x))) i;
+      nw = (ap (λ (q : Around). q.ne) c.requires.around ∙ ap (λ (x : ℕ). P.nw x a.y) (sym (add-one a.x))) i;
+      ne = (c.label-ne.ensures ∙ back (suc (a.x + 1)) a.y (a.x + 1) _ (omega arith) (omega arith) (omega arith) (omega arith) (omega arith) (omega arith)) i;
+      sw = (ap (λ (q : Around). q.se) c.requires.around ∙ ap (λ (x : ℕ). P.nw x (suc a.y)) (sym (add-one a.x))) i;
       se = (c.label-se.ensures ∙ back (suc (a.x + 1)) (suc a.y) (a.x + 1) a.y (omega arith) (omega arith) (omega arith) (omega arith) (omega arith) (omega arith)) i;
     }

@@ -1,31 +1,31 @@
 -- `listing::listing` meets its contract.
-use mathlib.Core.Path.{sym, ap, ◌∙◌}
+use mathlib.Core.Path.{sym}
 use native.Mathlib.Omega.{arith}
-use Rattle.listing.specs.Answers.{refused}
+use Rattle.std.proofs.lemmas.Result.{err_from_is_err_and}
 use Rattle.calls.proofs.Calls.{map_passed, planes_passed}
 use Rattle.listing.proofs.Listings.{listing_refused, listing_answered}
 use Rattle.listing.proofs.listing.Goals as goal
 
-pub returns-then-early-ne0 : goal.returns-then-early-ne0
-returns-then-early-ne0 c =
+pub returns-in_err-check_map : goal.returns-in_err-check_map
+returns-in_err-check_map c =
     let a = c.args in
-    let early = c.check_map-early.ensures in
-    listing_refused a.s a.labels.now a.work.now a.named.now a.words.now _ (λ z. c.if-early-ne0.true (early ∙ z)) (c.refuse.ensures ∙ ap refused early)
+    let p = err_from_is_err_and c.from_residual.result c.from_residual.ensures.1 in
+    rw (p.1, p.2) (listing_refused a.s a.labels.now a.work.now a.named.now a.words.now _ c.in_err-check_map.ensures)
 
 pub prepare-n-requires : goal.prepare-n-requires
 prepare-n-requires c =
     let a = c.args in
-    let early = c.check_map-early.ensures in
-    record { fact_1 = map_passed a.s a.labels.now a.work.now _ early c.if-early-ne0.false; fact_2 = planes_passed a.s a.labels.now a.work.now _ early c.if-early-ne0.false }
+    let z = sym c.in_ok-check_map.ensures in
+    record { map = map_passed a.s a.labels.now a.work.now z; room = planes_passed a.s a.labels.now a.work.now z }
 
 pub clear-requires : goal.clear-requires
 clear-requires c =
-    let early = c.check_map-early.ensures in
     let a = c.args in
-    let map = map_passed a.s a.labels.now a.work.now _ early c.if-early-ne0.false in
-    (map.wide, map.high, omega (arith, planes_passed a.s a.labels.now a.work.now _ early c.if-early-ne0.false, c.prepare-n.ensures.kept.long))
+    let z = sym c.in_ok-check_map.ensures in
+    let map = map_passed a.s a.labels.now a.work.now z in
+    (map.wide, map.high, omega (arith, planes_passed a.s a.labels.now a.work.now z, c.prepare-n.ensures.kept.long))
 
 pub returns : goal.returns
 returns c =
     let a = c.args in
-    listing_answered a.s a.labels.now a.work.now a.named.now a.words.now (sym c.check_map-early.ensures ∙ c.if-early-ne0.false) c.prepare-n.ensures c.write_listing-a.ensures c.clear.ensures
+    listing_answered a.s a.labels.now a.work.now a.named.now a.words.now (sym c.in_ok-check_map.ensures) c.prepare-n.ensures c.write_listing-length.ensures c.clear.ensures

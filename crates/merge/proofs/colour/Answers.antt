@@ -5,4 +5,4 @@ use Rattle.merge.proofs.colour.Goals as goal
 
 pub returns : goal.returns
 unfolding coloured
-returns c = rw (c.tint-3.ensures, c.tint-2.ensures, c.tint.ensures, c.long-area.ensures, c.get.ensures) refl
+returns c = rw (c.tint-3.ensures, c.tint-2.ensures, c.tint.ensures, c.from-area.ensures, c.get.ensures) refl

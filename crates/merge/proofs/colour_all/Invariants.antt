@@ -1,10 +1,6 @@
--- The loop of `colour_all`: what it keeps and its measure.
-use Prim.Native.Nat.{◌-◌}
+-- The loop of `colour_all`: what it keeps.
 use Rattle.merge.proofs.Colouring.{Colouring}
 use Rattle.merge.proofs.colour_all.Given as goal
 
 abbrev pub invariant-loop-l : goal.invariant-loop-l
 invariant-loop-l l = Colouring l.n l.colours l.initial.regions l.l l.regions
-
-abbrev pub decreases-loop-l : goal.decreases-loop-l
-decreases-loop-l l = l.n - l.l

@@ -8,4 +8,4 @@ pub overflow_cast-result : goal.overflow_cast-result
 overflow_cast-result c = omega (arith, c.run-r.ensures.few, sound_pixels _ c.requires.starts.sound)
 
 pub returns : goal.returns
-returns c = within _ _ _ _ _ _ _ _ _ _ _ _ c.run-r.ensures c.fill.ensures c.fill-2.ensures
+returns c = within _ _ _ _ _ _ _ _ _ _ _ _ c.run-r.ensures (c.fill.ensures.after (λ y e. e)) (c.fill-2.ensures.after (λ y e. e))

@@ -10,8 +10,7 @@ relabel_one-k-requires c = pass_asks _ _ _ _ _ c.requires _ _ _ _ _ _ c.loop-p.i
 
 pub loop-p-preserved : goal.loop-p-preserved
 loop-p-preserved c =
-    pass_go _ _ _ _ _ c.requires _ _ _ _ _ _ c.loop-p.invariant _ _ _ _ _ c.loop-p-test.true c.relabel_one-k.ensures _ _
-    (rw (c.at-old.ensures, c.at-new.ensures) at c.spread-p.ensures)
+    pass_go _ _ _ _ _ c.requires _ _ _ _ _ _ c.loop-p.invariant _ _ _ _ _ c.loop-p-test.true c.relabel_one-k.ensures _ _ c.spread-p.ensures
 
 pub returns : goal.returns
 returns c = pass_over _ _ _ _ _ c.requires _ _ _ _ _ _ c.loop-p.invariant c.loop-p-test.false

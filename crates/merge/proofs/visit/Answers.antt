@@ -12,11 +12,11 @@ returns-then-p-q c = visit_one _ _ _ _ _ _ _ _ (found_both _ _ _ _ _ _ _ _ c.fin
 pub apart-requires : goal.apart-requires
 apart-requires c = let d = c.requires in visit_room _ c.args.limit _ _ _ _ _ _ (found_both _ _ _ _ _ _ _ _ c.find-p.ensures c.find-q.ensures) d.state d.pair c.if-p-q.false
 
-pub returns-then-long-apart : goal.returns-then-long-apart
-returns-then-long-apart c = visit_apart _ _ _ _ _ _ _ _ (found_both _ _ _ _ _ _ _ _ c.find-p.ensures c.find-q.ensures) (omega (arith, c.if-long-apart.true, c.apart.ensures, c.long.ensures))
+pub returns-then-from-apart : goal.returns-then-from-apart
+returns-then-from-apart c = visit_apart _ _ _ _ _ _ _ _ (found_both _ _ _ _ _ _ _ _ c.find-p.ensures c.find-q.ensures) (omega (arith, c.if-from-apart.true, c.apart.ensures, c.from.ensures))
 
 pub absorb-requires : goal.absorb-requires
 absorb-requires c = let d = c.requires in visit_takes _ c.args.limit _ _ _ _ _ _ (found_both _ _ _ _ _ _ _ _ c.find-p.ensures c.find-q.ensures) d.state d.pair c.if-p-q.false
 
 pub returns : goal.returns
-returns c = visit_done _ _ _ _ _ _ _ _ (found_both _ _ _ _ _ _ _ _ c.find-p.ensures c.find-q.ensures) _ c.if-p-q.false (omega (arith, c.if-long-apart.false, c.apart.ensures, c.long.ensures)) c.absorb.ensures (ap length c.absorb.ensures ∙ taken_long _ _ _)
+returns c = visit_done _ _ _ _ _ _ _ _ (found_both _ _ _ _ _ _ _ _ c.find-p.ensures c.find-q.ensures) _ c.if-p-q.false (omega (arith, c.if-from-apart.false, c.apart.ensures, c.from.ensures)) c.absorb.ensures (ap length c.absorb.ensures ∙ taken_long _ _ _)

@@ -7,4 +7,4 @@ use Rattle.mosaic.proofs.mosaic_graph.Goals as goal
 pub returns : goal.returns
 returns c =
     let a = c.args in
-    rw c.put_answer.ensures (c.graph.ensures ∙ ap (λ s. graph (map_of s a.labels.now) a.work.now a.nodes.now a.segments.now a.points.now) c.sized-s.ensures)
+    rw c.words.ensures (c.graph.ensures ∙ ap (λ s. graph (map_of s a.labels.now) a.work.now a.nodes.now a.segments.now a.points.now) c.sized-s.ensures)

@@ -7,4 +7,4 @@ use Rattle.mosaic.proofs.mosaic_size.Goals as goal
 pub returns : goal.returns
 returns c =
     let a = c.args in
-    rw c.put_answer.ensures (c.size.ensures ∙ ap (λ s. size (map_of s a.labels.now) a.work.now) c.sized-s.ensures)
+    rw c.words.ensures (c.size.ensures ∙ ap (λ s. size (map_of s a.labels.now) a.work.now) c.sized-s.ensures)

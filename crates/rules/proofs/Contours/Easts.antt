@@ -9,7 +9,9 @@ use mathlib.Core.List.Memᴰ.{tail as there}
 use mathlib.Core.List.{List, [], ◌∷◌, Memᴰ as In}
 use native.Mathlib.Omega.{arith}
 use native.Mathlib.Decide.{ℕ_discrete}
-use Rattle.rules.specs.Picture.{Picture, Dir, N, E, S, W, code, Dart, dart, back_of, to_x, to_y, turned, crack}
+use Rattle.rules.specs.Picture.{Picture, code, Dart, dart, back_of, to_x, to_y, turned, crack}
+use Rattle.rules.specs.declared.Dir.{Dir}
+use Rattle.rules.specs.declared.Dir.TheVariants.{N, E, S, W}
 use Rattle.rules.specs.Face.{turn}
 use Rattle.rules.proofs.Ground.Orbits.{Cycle}
 use Rattle.rules.proofs.Ground.Cycles.{cycle_all, cycle_next}

@@ -5,7 +5,9 @@ use mathlib.Core.Bool.{Bool, true, false, cond, not, ◌&&◌, and-true, and-fal
 use mathlib.Core.Path.{◌≡◌, refl, sym, ap, ap₂, ◌∙◌}
 use lib.Dec.{eqb}
 use borrow.Author.Tests.{eqb-true, eq-eqb, ne_eqb}
-use Rattle.rules.specs.Picture.{Picture, Dir, N, E, S, W, same_dir, right_of, left_of, back_of, Dart, dart, turned, left_at, left, right, crack, ahead_y, ahead_x}
+use Rattle.rules.specs.Picture.{Picture, same_dir, right_of, left_of, back_of, Dart, dart, turned, left_at, left, right, crack, ahead_y, ahead_x}
+use Rattle.rules.specs.declared.Dir.{Dir}
+use Rattle.rules.specs.declared.Dir.TheVariants.{N, E, S, W}
 use Rattle.rules.specs.Graph.{following, meets}
 use Rattle.rules.specs.Face.{keeps, successor, turn}
 use Rattle.rules.proofs.Lattice.Frame.{Framed}

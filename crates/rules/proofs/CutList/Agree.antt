@@ -10,7 +10,8 @@ use mathlib.Core.List.{List, map, Memᴰ as In}
 use native.Mathlib.Omega.{arith}
 use native.Mathlib.Decide.{dec_lt}
 use Rattle.rules.specs.Lists.{flat}
-use Rattle.rules.specs.Picture.{Picture, OUTSIDE, S, Dart, dart, turned, left_at, left, right, crack}
+use Rattle.rules.specs.Picture.{Picture, OUTSIDE, Dart, dart, turned, left_at, left, right, crack}
+use Rattle.rules.specs.declared.Dir.TheVariants.{S}
 use Rattle.rules.specs.Face.{Face, faces}
 use Rattle.rules.proofs.Lattice.Frame.{Framed}
 use Rattle.rules.proofs.Lattice.Darts.{uncrack_same, turned_turned, turned_crack}

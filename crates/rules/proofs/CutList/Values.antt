@@ -10,7 +10,9 @@ use native.Mathlib.Omega.{arith}
 use lib.Dec.{ltb, eqb}
 use lib.ListN.{length, get_or, length-append}
 use Rattle.rules.specs.Lists.{flat, keep}
-use Rattle.rules.specs.Picture.{Picture, seen, label, northwest, picture, OUTSIDE, Dir, N, E, S, W, code, right_of, Dart, same_dart, left_at, left, right, node, ahead_x, ahead_y}
+use Rattle.rules.specs.Picture.{Picture, seen, label, northwest, picture, OUTSIDE, code, right_of, Dart, same_dart, left_at, left, right, node, ahead_x, ahead_y}
+use Rattle.rules.specs.declared.Dir.{Dir}
+use Rattle.rules.specs.declared.Dir.TheVariants.{N, E, S, W}
 use Rattle.rules.specs.Graph.{nodes, corners}
 use Rattle.rules.specs.Describes.{Describes}
 use Rattle.rules.specs.Face.{refs, first_step, out_entry, no_dart, Face, faces}

@@ -9,7 +9,9 @@ use native.Mathlib.Omega.{arith}
 use lib.ListN.{length, take, drop}
 use lib.Seq.{drop-append_seam, take-append_seam}
 use Rattle.rules.specs.Lists.{flat}
-use Rattle.rules.specs.Picture.{Picture, Dir, N, E, S, W, Dart, dart, to_x, to_y, crack, ahead_y, ahead_x}
+use Rattle.rules.specs.Picture.{Picture, Dart, dart, to_x, to_y, crack, ahead_y, ahead_x}
+use Rattle.rules.specs.declared.Dir.{Dir}
+use Rattle.rules.specs.declared.Dir.TheVariants.{N, E, S, W}
 use Rattle.rules.specs.Face.{Face}
 use Rattle.rules.specs.Records.{point_records, contours_of, contour_words, face_words, unplaced}
 use Rattle.rules.proofs.Lattice.Frame.{Framed}

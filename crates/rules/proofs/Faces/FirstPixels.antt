@@ -9,7 +9,8 @@ use lib.Dec.{ltb, eqb}
 use lib.ListN.{get_or}
 use borrow.Author.Tests.{ltb-true, lt-ltb, eqb-true, eq-eqb}
 use Rattle.rules.specs.Lists.{upto, Distinct}
-use Rattle.rules.specs.Picture.{Picture, OUTSIDE, W, Dart, dart, left_at, left, right, crack}
+use Rattle.rules.specs.Picture.{Picture, OUTSIDE, Dart, dart, left_at, left, right, crack}
+use Rattle.rules.specs.declared.Dir.TheVariants.{W}
 use Rattle.rules.specs.Face.{pixels, label_of, firsts, islands, sorted, beside, beside_at}
 use Rattle.rules.proofs.Ground.Lists.{keep_in, in_keep, keep_distinct, upto_in, in_upto, upto_distinct}
 use Rattle.rules.proofs.Ground.Pigeonhole.{Rearranged}

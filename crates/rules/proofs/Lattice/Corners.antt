@@ -5,7 +5,9 @@ use mathlib.Core.Path.{◌≡◌, refl, sym, ap, ◌∙◌}
 use native.Mathlib.Omega.{arith}
 use lib.Dec.{leb, eqb}
 use borrow.Author.Tests.{eqb-true, ne_eqb, not-true}
-use Rattle.rules.specs.Picture.{Picture, Dir, N, E, S, W, same_dir, right_of, back_of, dart, left_at, left, right, crack, one, degree, node}
+use Rattle.rules.specs.Picture.{Picture, same_dir, right_of, back_of, dart, left_at, left, right, crack, one, degree, node}
+use Rattle.rules.specs.declared.Dir.{Dir}
+use Rattle.rules.specs.declared.Dir.TheVariants.{N, E, S, W}
 use Rattle.rules.specs.Graph.{way_on, onward}
 use Rattle.rules.proofs.Lattice.Darts.{crack_differs, uncrack_same}
 use Rattle.rules.proofs.Lattice.Directions.{same_dir_eq}

@@ -5,7 +5,9 @@ use mathlib.Core.Path.{◌≡◌, refl, sym, ◌∙◌}
 use native.Mathlib.Omega.{arith}
 use lib.Dec.{eqb}
 use borrow.Author.Tests.{eqb-true, eqb-false, eq-eqb, ne_eqb, not-true, not-false}
-use Rattle.rules.specs.Picture.{Picture, OUTSIDE, Dir, N, E, S, W, right_of, Dart, dart, same_dir, same_dart, to_x, to_y, turned, left_at, left, right, crack, ahead_y, ahead_x}
+use Rattle.rules.specs.Picture.{Picture, OUTSIDE, right_of, Dart, dart, same_dir, same_dart, to_x, to_y, turned, left_at, left, right, crack, ahead_y, ahead_x}
+use Rattle.rules.specs.declared.Dir.{Dir}
+use Rattle.rules.specs.declared.Dir.TheVariants.{N, E, S, W}
 use Rattle.rules.proofs.Ground.Booleans.{both, and_left, and_right}
 use Rattle.rules.proofs.Lattice.Directions.{same_dir_eq, same_dir_refl}
 use Rattle.rules.proofs.Lattice.Frame.{Framed}

@@ -2,7 +2,9 @@
 use mathlib.Core.Bool.{true, not, false≢true, true≢false}
 use mathlib.Core.Path.{◌≡◌, refl, sym, ap, ◌∙◌}
 use borrow.Author.Tests.{not-true}
-use Rattle.rules.specs.Picture.{Dir, N, E, S, W, code, same_dir, back_of}
+use Rattle.rules.specs.Picture.{code, same_dir, back_of}
+use Rattle.rules.specs.declared.Dir.{Dir}
+use Rattle.rules.specs.declared.Dir.TheVariants.{N, E, S, W}
 use Rattle.rules.proofs.Ground.Booleans.{eqb_sym, of_every_dir}
 
 pub same_dir_eq : (d e : Dir) → same_dir d e ≡ true → d ≡ e

@@ -13,7 +13,9 @@ use mathlib.Core.List.{List, [], ◌∷◌, ◌++◌, Memᴰ as In}
 use native.Mathlib.Omega.{arith}
 use native.Mathlib.Decide.{ℕ_discrete}
 use lib.ListN.{length, length-append}
-use Rattle.rules.specs.Picture.{Picture, Dir, N, E, S, W, Dart, dart, crack, node}
+use Rattle.rules.specs.Picture.{Picture, Dart, dart, crack, node}
+use Rattle.rules.specs.declared.Dir.{Dir}
+use Rattle.rules.specs.declared.Dir.TheVariants.{N, E, S, W}
 use Rattle.rules.specs.Graph.{row, rows, out, corners, nodes, fuel}
 use Rattle.rules.proofs.Lattice.Frame.{Framed}
 use Rattle.rules.proofs.Lattice.Darts.{crack_x, crack_y}

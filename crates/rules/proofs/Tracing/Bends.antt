@@ -12,7 +12,9 @@ use native.Mathlib.Decide.{ℕ_discrete}
 use lib.Dec.{leb}
 use borrow.Author.Tests.{not-true}
 use Rattle.rules.specs.Lists.{keep, flat}
-use Rattle.rules.specs.Picture.{Picture, Dir, N, E, S, W, same_dir, Dart, dart, to_x, to_y, ahead_x, ahead_y, turned, crack, one, degree, node}
+use Rattle.rules.specs.Picture.{Picture, same_dir, Dart, dart, to_x, to_y, ahead_x, ahead_y, turned, crack, one, degree, node}
+use Rattle.rules.specs.declared.Dir.{Dir}
+use Rattle.rules.specs.declared.Dir.TheVariants.{N, E, S, W}
 use Rattle.rules.specs.Graph.{following, meets, on, visit, trace, row, rows, corners, nodes, out, walk, fuel}
 use Rattle.rules.specs.Describes.{On}
 use Rattle.rules.proofs.Ground.Booleans.{both, and_left, and_right}

@@ -16,7 +16,9 @@ use native.Mathlib.Omega.{arith}
 use native.Mathlib.Nat.{mul_comm}
 use lib.ListN.{length, length-append, length-map}
 use Rattle.rules.specs.Lists.{flat, Distinct}
-use Rattle.rules.specs.Picture.{Picture, Dir, N, E, S, W, same_dir, Dart, dart, to_x, to_y, turned, crack}
+use Rattle.rules.specs.Picture.{Picture, same_dir, Dart, dart, to_x, to_y, turned, crack}
+use Rattle.rules.specs.declared.Dir.{Dir}
+use Rattle.rules.specs.declared.Dir.TheVariants.{N, E, S, W}
 use Rattle.rules.specs.Graph.{rows, corners, east_south, cracks}
 use Rattle.rules.proofs.Lattice.Frame.{Framed}
 use Rattle.rules.proofs.Lattice.Darts.{turned_turned, turned_crack, crack_x, crack_y, crack_to_x, crack_to_y}

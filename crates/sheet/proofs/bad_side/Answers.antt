@@ -3,10 +3,10 @@ use lib.Ieee.{of_bits, of_int}
 use Rattle.sheet.proofs.Calls.{side_above, side_not_above}
 use Rattle.sheet.proofs.bad_side.Goals as goal
 
-pub returns-then-side : goal.returns-then-side
+pub returns-then-not-side : goal.returns-then-not-side
 unfolding of_bits of_int
-returns-then-side c = side_above c.args.side c.if-side.true
+returns-then-not-side c = rw c.if-not-side.true (side_not_above c.args.side c.if-not-side.true)
 
-pub returns : goal.returns
+pub returns-else-not-side : goal.returns-else-not-side
 unfolding of_bits of_int
-returns c = side_not_above c.args.side c.if-side.false
+returns-else-not-side c = side_above c.args.side c.if-not-side.false

@@ -4,14 +4,14 @@ use Prim.Native.Nat.{◌-◌}
 use Rattle.sheet.proofs.Calls.{stays, none_left, passes}
 use Rattle.sheet.proofs.onward.Goals as goal
 
-pub loop-i-init : goal.loop-i-init
-loop-i-init c = refl
+pub loop-at-init : goal.loop-at-init
+loop-at-init c = refl
 
-pub loop-i-preserved : goal.loop-i-preserved
-loop-i-preserved c = let l = c.loop-i in let a = c.args in sym (passes a.segments.now a.points.now a.count l.i l.p c.loop-i-test.true (sym c.over.ensures ∙ c.if-over.true)) ∙ l.invariant
+pub loop-at-preserved : goal.loop-at-preserved
+loop-at-preserved c = let l = c.loop-at in let a = c.args in sym (passes a.segments.now a.points.now a.count l.at.segment l.at.place c.loop-at-test.true (sym c.over.ensures ∙ c.if-over.true)) ∙ l.invariant
 
 pub returns-else-over : goal.returns-else-over
-returns-else-over c = let l = c.loop-i in let a = c.args in sym (stays a.segments.now a.points.now (a.count - l.i) l.i l.p (sym c.over.ensures ∙ c.if-over.false)) ∙ l.invariant
+returns-else-over c = let l = c.loop-at in let a = c.args in sym (stays a.segments.now a.points.now (a.count - l.at.segment) l.at.segment l.at.place (sym c.over.ensures ∙ c.if-over.false)) ∙ l.invariant
 
-pub returns : goal.returns
-returns c = let l = c.loop-i in let a = c.args in sym (none_left a.segments.now a.points.now a.count l.i l.p c.loop-i-test.false) ∙ l.invariant
+pub returns-after-loop-at : goal.returns-after-loop-at
+returns-after-loop-at c = let l = c.loop-at in let a = c.args in sym (none_left a.segments.now a.points.now a.count l.at.segment l.at.place c.loop-at-test.false) ∙ l.invariant

@@ -4,9 +4,10 @@ use Prim.Native.Nat.{◌-◌}
 use Rattle.sheet.specs.Moving.{onward_from}
 use Rattle.sheet.proofs.onward.Given as goal
 
-abbrev pub invariant-loop-i : goal.invariant-loop-i
-invariant-loop-i l =
-    onward_from l.segments l.points (l.count - l.i) l.i l.p ≡ onward_from l.segments l.points (l.count - l.segment) l.segment l.place
+abbrev pub invariant-loop-at : goal.invariant-loop-at
+invariant-loop-at l =
+    onward_from l.segments l.points (l.count - l.at.segment) l.at.segment l.at.place
+    ≡ onward_from l.segments l.points (l.count - l.fn.from.segment) l.fn.from.segment l.fn.from.place
 
-abbrev pub decreases-loop-i : goal.decreases-loop-i
-decreases-loop-i l = l.count - l.i
+abbrev pub decreases-loop-at : goal.decreases-loop-at
+decreases-loop-at l = l.count - l.at.segment

@@ -1,8 +1,9 @@
 -- `tray::tray` meets its contract.
-use Prim.Native.Nat.{ℕ, ◌+◌, ◌*◌, ◌<◌, ◌≤◌, zero-le}
-use mathlib.Core.Path.{◌≡◌, refl, subst, ◌∙◌}
+use Prim.Native.Nat.{ℕ, ◌+◌, ◌*◌, ◌<◌, ◌≤◌}
+use mathlib.Core.Path.{◌≡◌, refl, ap, subst, ◌∙◌}
 use native.Mathlib.Omega.{arith}
 use lib.ListN.{length}
+use lib.Seq.{sets}
 use Rattle.calls.specs.Mode.{size_in}
 use Rattle.tray.specs.Steps.{stores_with, LabelsPassed}
 use Rattle.tray.proofs.Progress.{tiles_count, tile_at, begins, inside, records_fit, filled, continues, too_few, over}
@@ -16,11 +17,11 @@ returns-then-answers-count c =
 pub loop-i-init : goal.loop-i-init
 loop-i-init c =
     let a = c.args in
-    (begins a.mode a.maps.now a.labels.now a.work.now (stores_with a.nodes.now a.segments.now a.points.now a.references.now a.contours.now a.faces.now) a.answers.now, zero-le, refl, refl, refl, refl, refl, refl, refl, refl)
+    (begins a.mode a.maps.now a.labels.now a.work.now (stores_with a.nodes.now a.segments.now a.points.now a.references.now a.contours.now a.faces.now) a.answers.now, refl, refl, refl, refl, refl, refl, refl, refl)
 
-pub one-a-requires : goal.one-a-requires
-one-a-requires c =
-    let g = c.loop-i.invariant.0 in record { fact_1 = g.within; fact_2 = inside _ _ _ _ _ _ g }
+pub one-answer-requires : goal.one-answer-requires
+one-answer-requires c =
+    let g = c.loop-i.invariant.0 in record { labels = g.within; stores = inside _ _ _ _ _ _ g }
 
 pub past_records-p-requires : goal.past_records-p-requires
 past_records-p-requires c =
@@ -30,15 +31,15 @@ past_records-p-requires c =
     let is : s ≡ tile_at a.mode a.maps.now (3 * c.loop-i.i) = c.sized-s.ensures ∙ (λ j. size_in a.mode (c.at.ensures j) (c.at-in-loop-i.ensures j) (c.at-in-loop-i-2.ensures j)) in
     let more : 3 * c.loop-i.i + 2 < length a.maps.now = omega (arith, c.loop-i-test.true) in
     let room : 8 * c.loop-i.i + 8 ≤ length a.answers.now = omega (arith, c.loop-i-test.true, c.if-answers-count.false) in
-    let full = filled a.mode a.maps.now a.labels.now a.work.now (stores_with a.nodes.now a.segments.now a.points.now a.references.now a.contours.now a.faces.now) a.answers.now g s is more room c.one-a.result c.one-a.ensures in
+    let full = filled a.mode a.maps.now a.labels.now a.work.now (stores_with a.nodes.now a.segments.now a.points.now a.references.now a.contours.now a.faces.now) a.answers.now g s is more room c.one-answer.result c.one-answer.ensures in
     let good = c.well_formed in
-    records_fit c.loop-i.p c.past_labels.result c.one-a.result full c.past_labels.ensures.others
-    (omega (arith, c.one-a.auto.nodes ∙ c.loop-i.invariant.3, good))
-    (omega (arith, c.one-a.auto.segments ∙ c.loop-i.invariant.4, good))
-    (omega (arith, c.one-a.auto.points ∙ c.loop-i.invariant.5, good))
-    (omega (arith, c.one-a.auto.references ∙ c.loop-i.invariant.6, good))
-    (omega (arith, c.one-a.auto.contours ∙ c.loop-i.invariant.7, good))
-    (omega (arith, c.one-a.auto.faces ∙ c.loop-i.invariant.8, good))
+    records_fit c.loop-i.p c.past_labels.result c.one-answer.result full c.past_labels.ensures.others
+    (omega (arith, c.one-answer.auto.nodes ∙ c.loop-i.invariant.2, good))
+    (omega (arith, c.one-answer.auto.segments ∙ c.loop-i.invariant.3, good))
+    (omega (arith, c.one-answer.auto.points ∙ c.loop-i.invariant.4, good))
+    (omega (arith, c.one-answer.auto.references ∙ c.loop-i.invariant.5, good))
+    (omega (arith, c.one-answer.auto.contours ∙ c.loop-i.invariant.6, good))
+    (omega (arith, c.one-answer.auto.faces ∙ c.loop-i.invariant.7, good))
 
 pub loop-i-preserved : goal.loop-i-preserved
 loop-i-preserved c =
@@ -49,16 +50,15 @@ loop-i-preserved c =
     let more : 3 * c.loop-i.i + 2 < length a.maps.now = omega (arith, c.loop-i-test.true) in
     let room : 8 * c.loop-i.i + 8 ≤ length a.answers.now = omega (arith, c.loop-i-test.true, c.if-answers-count.false) in
     let passed = subst (λ (n : ℕ). LabelsPassed c.loop-i.p n (length a.labels.now) c.past_labels.result) c.pixels.ensures c.past_labels.ensures in (
-      continues a.mode a.maps.now a.labels.now a.work.now (stores_with a.nodes.now a.segments.now a.points.now a.references.now a.contours.now a.faces.now) a.answers.now g s is more room c.one-a.result c.one-a.ensures passed c.past_records-p.ensures c.put_answer.ensures,
-      omega (arith, c.loop-i-test.true),
-      c.one-a.auto.work ∙ c.loop-i.invariant.2,
-      c.one-a.auto.nodes ∙ c.loop-i.invariant.3,
-      c.one-a.auto.segments ∙ c.loop-i.invariant.4,
-      c.one-a.auto.points ∙ c.loop-i.invariant.5,
-      c.one-a.auto.references ∙ c.loop-i.invariant.6,
-      c.one-a.auto.contours ∙ c.loop-i.invariant.7,
-      c.one-a.auto.faces ∙ c.loop-i.invariant.8,
-      c.put_answer.auto.answers ∙ c.loop-i.invariant.9,
+      continues a.mode a.maps.now a.labels.now a.work.now (stores_with a.nodes.now a.segments.now a.points.now a.references.now a.contours.now a.faces.now) a.answers.now g s is more room c.one-answer.result c.one-answer.ensures passed c.past_records-p.ensures (c.put_all.ensures ∙ ap (sets _ (8 * c.loop-i.i)) c.words.ensures),
+      c.one-answer.auto.work ∙ c.loop-i.invariant.1,
+      c.one-answer.auto.nodes ∙ c.loop-i.invariant.2,
+      c.one-answer.auto.segments ∙ c.loop-i.invariant.3,
+      c.one-answer.auto.points ∙ c.loop-i.invariant.4,
+      c.one-answer.auto.references ∙ c.loop-i.invariant.5,
+      c.one-answer.auto.contours ∙ c.loop-i.invariant.6,
+      c.one-answer.auto.faces ∙ c.loop-i.invariant.7,
+      c.put_all.auto.words ∙ c.loop-i.invariant.8,
     )
 
 pub returns : goal.returns

@@ -3,8 +3,8 @@ use Rattle.face.proofs.contours.Rounds.{ahead}
 use Rattle.veneer.proofs.Walking.{Sofar}
 use Rattle.veneer.proofs.contour.Given as goal
 
-abbrev pub invariant-loop-n : goal.invariant-loop-n
-invariant-loop-n l = Sofar l.s l.labels l.initial.work l.at l.w l.region.0 l.work l.c l.n l.t
+abbrev pub invariant-loop-s : goal.invariant-loop-s
+invariant-loop-s l = Sofar l.s l.labels l.initial.work l.at l.w l.region.0 l.work l.c l.n l.t
 
-abbrev pub decreases-loop-n : goal.decreases-loop-n
-decreases-loop-n l = ahead l.s l.labels l.w l.c
+abbrev pub decreases-loop-s : goal.decreases-loop-s
+decreases-loop-s l = ahead l.s l.labels l.w l.c

@@ -1,96 +1,89 @@
 -- `workbench::assemble` meets its contract.
 use mathlib.Core.Path.{refl, sym, ap, ◌∙◌}
 use native.Mathlib.Omega.{arith}
-use Rattle.rules.specs.Calls.{cut_list, refused}
+use Rattle.std.proofs.lemmas.Result.{err_from_is_err_and}
+use Rattle.rules.specs.Refusals.{number_in}
+use Rattle.rules.specs.Calls.{cut_list}
 use Rattle.store.proofs.Writes.{kept_then, kept_within}
 use Rattle.accept.specs.Walks.{given}
 use Rattle.calls.specs.Outcome.{map_of}
+use Rattle.calls.proofs.Refusals.{none_in, some_in}
 use Rattle.calls.proofs.Calls.{map_passed, planes_passed}
-use Rattle.workbench.proofs.Benched.{counted_nodes, counted_cracks, stands_accepted, number_is, number_accepts, bench_refused, bench_stopped, bench_done, worked}
+use Rattle.workbench.proofs.Benched.{counted_nodes, counted_cracks, stands_accepted, number_is, number_accepts, Benched, bench_left, bench_written, bench_refused, bench_answered}
+use Rattle.workbench.proofs.assemble.Goals.{then-is_ok, else-is_ok}
 use Rattle.workbench.proofs.assemble.Goals as goal
 
-pub returns-then-early-ne0 : goal.returns-then-early-ne0
-returns-then-early-ne0 c =
+pub returns-in_err-check_map : goal.returns-in_err-check_map
+returns-in_err-check_map c =
     let a = c.args in
-    let early = c.check_map-early.ensures in
-    bench_refused a.s a.labels.now _ a.references.now a.contours.now a.faces.now a.work.now _ (λ z. c.if-early-ne0.true (early ∙ z)) (c.refuse.ensures ∙ ap refused early)
+    let p = err_from_is_err_and c.from_residual.result c.from_residual.ensures.1 in
+    rw (p.1, p.2) (bench_refused a.s a.labels.now (given a.nodes.now a.node_count a.segments.now a.segment_count a.points.now) a.references.now a.contours.now a.faces.now a.work.now _ c.in_err-check_map.ensures)
 
 pub count_graph-c-requires : goal.count_graph-c-requires
 count_graph-c-requires c =
     let a = c.args in
-    let early = c.check_map-early.ensures in
-    record { fact_1 = map_passed a.s a.labels.now a.work.now _ early c.if-early-ne0.false; fact_2 = planes_passed a.s a.labels.now a.work.now _ early c.if-early-ne0.false }
+    let z = sym c.in_ok-check_map.ensures in
+    record { map = map_passed a.s a.labels.now a.work.now z; planes = planes_passed a.s a.labels.now a.work.now z }
 
-pub count_faces-a-requires : goal.count_faces-a-requires
-count_faces-a-requires c =
+pub count_faces-counts-requires : goal.count_faces-counts-requires
+count_faces-counts-requires c =
     let a = c.args in
-    let early = c.check_map-early.ensures in
-    let map = map_passed a.s a.labels.now a.work.now _ early c.if-early-ne0.false in
-    let planes = planes_passed a.s a.labels.now a.work.now _ early c.if-early-ne0.false in
+    let z = sym c.in_ok-check_map.ensures in
     let counted = c.count_graph-c.ensures in
-    record { fact_1 = map; fact_2 = omega (arith, planes, counted.1.long); fact_3 = counted.0 }
+    record { map = map_passed a.s a.labels.now a.work.now z; planes = omega (arith, planes_passed a.s a.labels.now a.work.now z, counted.1.long); graph = counted.0 }
 
 pub accept-fits-requires : goal.accept-fits-requires
 accept-fits-requires c =
     let a = c.args in
-    let early = c.check_map-early.ensures in
-    let map = map_passed a.s a.labels.now a.work.now _ early c.if-early-ne0.false in
-    let planes = planes_passed a.s a.labels.now a.work.now _ early c.if-early-ne0.false in
-    let k = c.count_faces-a.ensures in
-    record { fact_1 = map; fact_2 = omega (arith, planes, c.count_graph-c.ensures.1.long, k.kept.long); fact_3 = counted_nodes k.graph; fact_4 = counted_cracks k.graph }
-
-pub clear-requires : goal.clear-requires
-clear-requires c =
-    let a = c.args in
-    let early = c.check_map-early.ensures in
-    let map = map_passed a.s a.labels.now a.work.now _ early c.if-early-ne0.false in
-    let planes = planes_passed a.s a.labels.now a.work.now _ early c.if-early-ne0.false in
-    (map.wide, map.high, omega (arith, planes, c.count_graph-c.ensures.1.long, c.count_faces-a.ensures.kept.long, c.accept-fits.ensures.1.long))
-
-pub returns-then-number-ne0 : goal.returns-then-number-ne0
-returns-then-number-ne0 c =
-    let a = c.args in
-    let g = given a.nodes.now a.node_count a.segments.now a.segment_count a.points.now in
-    let k = c.count_faces-a.ensures in
-    let number = number_is a.s a.labels.now g a.references.now a.contours.now a.faces.now c.or_else-number.ensures c.check_given-strange.ensures c.accept-fits.ensures.0 (c.check_faces-short.ensures (cut_list (map_of a.s a.labels.now)) a.references.now a.contours.now a.faces.now k.counts refl refl refl) in
-    let kept = kept_then c.count_graph-c.ensures.1 (kept_then k.kept (kept_within (omega arith) (omega arith) c.accept-fits.ensures.1)) in
-    bench_stopped a.s a.labels.now g a.references.now a.contours.now a.faces.now a.work.now (sym c.check_map-early.ensures ∙ c.if-early-ne0.false) number k.counts kept c.clear.ensures c.if-number-ne0.true
+    let z = sym c.in_ok-check_map.ensures in
+    let k = c.count_faces-counts.ensures in
+    record {
+      map = map_passed a.s a.labels.now a.work.now z;
+      marks = omega (arith, planes_passed a.s a.labels.now a.work.now z, c.count_graph-c.ensures.1.long, k.kept.long);
+      corners = counted_nodes k.graph;
+      cracks = counted_cracks k.graph;
+    }
 
 pub assemble-requires : goal.assemble-requires
 assemble-requires c =
     let a = c.args in
-    let early = c.check_map-early.ensures in
-    let map = map_passed a.s a.labels.now a.work.now _ early c.if-early-ne0.false in
-    let planes = planes_passed a.s a.labels.now a.work.now _ early c.if-early-ne0.false in
+    let z = sym c.in_ok-check_map.ensures in
+    let map = map_passed a.s a.labels.now a.work.now z in
     let g = given a.nodes.now a.node_count a.segments.now a.segment_count a.points.now in
-    let k = c.count_faces-a.ensures in
-    let number = number_is a.s a.labels.now g a.references.now a.contours.now a.faces.now c.or_else-number.ensures c.check_given-strange.ensures c.accept-fits.ensures.0 (c.check_faces-short.ensures (cut_list (map_of a.s a.labels.now)) a.references.now a.contours.now a.faces.now k.counts refl refl refl) in
-    let standing = stands_accepted a.s a.labels.now g map (number_accepts a.s a.labels.now g a.references.now a.contours.now a.faces.now (sym number ∙ c.if-number-ne0.false)) (omega (arith, planes, c.count_graph-c.ensures.1.long, k.kept.long)) k.numbers c.accept-fits.ensures.1 in
-    record { fact_1 = map; fact_2 = record { ss = _; standing = standing } }
+    let k = c.count_faces-counts.ensures in
+    let number = ap number_in c.and-room.ensures ∙ number_is a.s a.labels.now g a.references.now a.contours.now a.faces.now c.check_given-strange.result c.check_faces-short.result c.check_given-strange.ensures c.accept-fits.ensures.0 (c.check_faces-short.ensures (cut_list (map_of a.s a.labels.now)) a.references.now a.contours.now a.faces.now k.counts refl refl refl) in
+    let none = none_in c.and-room.result (sym c.is_ok.ensures.value ∙ c.if-is_ok.true) in
+    let planes = planes_passed a.s a.labels.now a.work.now z in
+    let standing = stands_accepted a.s a.labels.now g map (number_accepts a.s a.labels.now g a.references.now a.contours.now a.faces.now (sym number ∙ none)) (omega (arith, planes, c.count_graph-c.ensures.1.long, k.kept.long)) k.numbers c.accept-fits.ensures.1 in
+    record { map = map; stands = record { ss = _; standing = standing } }
 
-pub clear-requires-2 : goal.clear-requires-2
-clear-requires-2 c =
+pub clear-requires : goal.clear-requires
+clear-requires c =
     let a = c.args in
-    let early = c.check_map-early.ensures in
-    let map = map_passed a.s a.labels.now a.work.now _ early c.if-early-ne0.false in
-    let planes = planes_passed a.s a.labels.now a.work.now _ early c.if-early-ne0.false in
-    let g = given a.nodes.now a.node_count a.segments.now a.segment_count a.points.now in
-    let k = c.count_faces-a.ensures in
-    let number = number_is a.s a.labels.now g a.references.now a.contours.now a.faces.now c.or_else-number.ensures c.check_given-strange.ensures c.accept-fits.ensures.0 (c.check_faces-short.ensures (cut_list (map_of a.s a.labels.now)) a.references.now a.contours.now a.faces.now k.counts refl refl refl) in
-    let standing = stands_accepted a.s a.labels.now g map (number_accepts a.s a.labels.now g a.references.now a.contours.now a.faces.now (sym number ∙ c.if-number-ne0.false)) (omega (arith, planes, c.count_graph-c.ensures.1.long, k.kept.long)) k.numbers c.accept-fits.ensures.1 in
-    let assembled = c.assemble.ensures _ standing in
-    (map.wide, map.high, omega (arith, planes, c.count_graph-c.ensures.1.long, c.count_faces-a.ensures.kept.long, c.accept-fits.ensures.1.long, assembled.changed.long))
+    let z = sym c.in_ok-check_map.ensures in
+    let map = map_passed a.s a.labels.now a.work.now z in
+    let planes = planes_passed a.s a.labels.now a.work.now z in
+    (map.wide, map.high, omega (arith, planes, c.count_graph-c.ensures.1.long, c.count_faces-counts.ensures.kept.long, c.accept-fits.ensures.1.long, c.if-is_ok.auto.work))
 
 pub returns : goal.returns
 returns c =
     let a = c.args in
-    let early = c.check_map-early.ensures in
-    let map = map_passed a.s a.labels.now a.work.now _ early c.if-early-ne0.false in
-    let planes = planes_passed a.s a.labels.now a.work.now _ early c.if-early-ne0.false in
+    let z = sym c.in_ok-check_map.ensures in
     let g = given a.nodes.now a.node_count a.segments.now a.segment_count a.points.now in
-    let k = c.count_faces-a.ensures in
-    let number = number_is a.s a.labels.now g a.references.now a.contours.now a.faces.now c.or_else-number.ensures c.check_given-strange.ensures c.accept-fits.ensures.0 (c.check_faces-short.ensures (cut_list (map_of a.s a.labels.now)) a.references.now a.contours.now a.faces.now k.counts refl refl refl) in
-    let standing = stands_accepted a.s a.labels.now g map (number_accepts a.s a.labels.now g a.references.now a.contours.now a.faces.now (sym number ∙ c.if-number-ne0.false)) (omega (arith, planes, c.count_graph-c.ensures.1.long, k.kept.long)) k.numbers c.accept-fits.ensures.1 in
-    let assembled = c.assemble.ensures _ standing in
+    let k = c.count_faces-counts.ensures in
+    let number = ap number_in c.and-room.ensures ∙ number_is a.s a.labels.now g a.references.now a.contours.now a.faces.now c.check_given-strange.result c.check_faces-short.result c.check_given-strange.ensures c.accept-fits.ensures.0 (c.check_faces-short.ensures (cut_list (map_of a.s a.labels.now)) a.references.now a.contours.now a.faces.now k.counts refl refl refl) in
     let kept = kept_then c.count_graph-c.ensures.1 (kept_then k.kept (kept_within (omega arith) (omega arith) c.accept-fits.ensures.1)) in
-    bench_done a.s a.labels.now g a.references.now a.contours.now a.faces.now a.work.now (sym early ∙ c.if-early-ne0.false) number k.counts (kept_then kept (worked assembled)) c.clear-2.ensures c.if-number-ne0.false (omega (arith, c.well_formed)) assembled
+    let room = c.and-room.result in
+    let j = c.if-is_ok in
+    let benched : Benched a.s a.labels.now g a.references.now a.contours.now a.faces.now (number_in room) c.accept-fits.new.work j.work j.references j.contours j.faces =
+    elim j.branch [
+      | then-is_ok w ↦
+          let none = none_in room (sym c.is_ok.ensures.value ∙ w.if-is_ok.true) in
+          let planes = planes_passed a.s a.labels.now a.work.now z in
+          let standing = stands_accepted a.s a.labels.now g (map_passed a.s a.labels.now a.work.now z) (number_accepts a.s a.labels.now g a.references.now a.contours.now a.faces.now (sym number ∙ none)) (omega (arith, planes, c.count_graph-c.ensures.1.long, k.kept.long)) k.numbers c.accept-fits.ensures.1 in
+          rw (w.work-is, w.references-is, w.contours-is, w.faces-is) (bench_written a.s a.labels.now g a.references.now a.contours.now a.faces.now number none (omega (arith, c.well_formed)) (w.assemble.ensures _ standing))
+      | else-is_ok w ↦
+          rw (w.work-is, w.references-is, w.contours-is, w.faces-is) (bench_left a.s a.labels.now g a.references.now a.contours.now a.faces.now (some_in room (sym c.is_ok.ensures.value ∙ w.if-is_ok.false)))
+    ]
+    in
+    rw c.answer.ensures (bench_answered a.s a.labels.now g a.references.now a.contours.now a.faces.now a.work.now room z number k.counts kept benched c.clear.ensures)

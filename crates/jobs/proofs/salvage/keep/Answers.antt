@@ -5,10 +5,9 @@ use mathlib.Core.Path.{◌≡◌, sym, ap, ◌∙◌}
 use native.Mathlib.Omega.{arith}
 use lib.ListN.{length, take, drop, length-drop}
 use lib.Seq.{take_all}
-use Rattle.jobfile.specs.Entries.{word_at, kind_of}
-use Rattle.jobfile.specs.Salvage.{fits}
-use Rattle.jobs.specs.Salvaging.{placed}
+use Rattle.jobfile.specs.Salvage.{start}
 use Rattle.jobfile.proofs.Again.{long}
+use Rattle.jobs.specs.Salvaging.{place_of}
 use Rattle.jobs.proofs.Scanning.{from_start, from_over, from_ends, from_next, next_room}
 use Rattle.jobs.proofs.salvage.keep.Goals as goal
 
@@ -16,56 +15,48 @@ use Rattle.jobs.proofs.salvage.keep.Goals as goal
 rest_whole : (b : List ℕ) (at : ℕ) → take (length b - at) (drop at b) ≡ drop at b
 rest_whole b at = take_all (length b - at) (drop at b) (omega (arith, length-drop at b))
 
-pub word_at-width-requires : goal.word_at-width-requires
-word_at-width-requires c = omega (arith, long c.args.b.now c.requires)
-
-pub word_at-height-requires : goal.word_at-height-requires
-word_at-height-requires c = omega (arith, long c.args.b.now c.requires)
-
-pub word_at-paints-requires : goal.word_at-paints-requires
-word_at-paints-requires c = omega (arith, long c.args.b.now c.requires)
+pub start-place-requires : goal.start-place-requires
+start-place-requires c = omega (arith, long c.args.b.now c.requires)
 
 pub loop-at-init : goal.loop-at-init
-loop-at-init c =
-    let b = c.args.b.now in
-    (long b c.requires, omega arith, from_start b c.word_at-width.result c.word_at-height.result c.word_at-paints.result c.word_at-width.ensures c.word_at-height.ensures c.word_at-paints.ensures)
-
-pub kind-k-requires : goal.kind-k-requires
-kind-k-requires c = let e = ap length (rest_whole c.args.b.now c.loop-at.at) in omega (arith, length-drop c.loop-at.at c.args.b.now)
-
-pub fits-requires : goal.fits-requires
-fits-requires c = let e = ap length (rest_whole c.args.b.now c.loop-at.at) in (omega (arith, length-drop c.loop-at.at c.args.b.now), c.kind-k.ensures)
+unfolding start
+loop-at-init c = let b = c.args.b.now in let e = ap (λ p. p.segments) c.start-place.ensures in (long b c.requires, omega arith, from_start b _ c.start-place.ensures)
 
 pub returns-then-not-fits : goal.returns-then-not-fits
 returns-then-not-fits c =
-    let a = c.args in
+    let b = c.args.b.now in
     let l = c.loop-at in
-    sym (from_ends a.b.now c.word_at-width.result c.word_at-height.result c.word_at-paints.result l.segments l.faces l.at l.invariant.2 (omega arith) c.kind-k.result ((c.kind-k.ensures ∙ ap kind_of (rest_whole c.args.b.now c.loop-at.at))) (sym ((let l = c.loop-at in c.fits.ensures ∙ ap (fits (placed c.word_at-width.result c.word_at-height.result c.word_at-paints.result l.segments l.faces)) (rest_whole c.args.b.now c.loop-at.at))) ∙ c.if-not-fits.true))
-
-pub word_at-requires : goal.word_at-requires
-word_at-requires c = let e = ap length (rest_whole c.args.b.now c.loop-at.at) in omega (arith, length-drop c.loop-at.at c.args.b.now)
+    from_ends b (place_of l.place) l.at l.invariant.2 (omega arith) _ (rest_whole b l.at) c.kind_number-k.result c.kind_number-k.ensures (sym c.fits.ensures ∙ c.if-not-fits.true)
 
 pub overflow_add-at-in-loop-at : goal.overflow_add-at-in-loop-at
-overflow_add-at-in-loop-at c = omega (arith, (let a = c.args in let l = c.loop-at in next_room a.b.now c.word_at-width.result c.word_at-height.result c.word_at-paints.result l.segments l.faces l.at l.invariant.2 (omega arith) c.kind-k.result ((c.kind-k.ensures ∙ ap kind_of (rest_whole c.args.b.now c.loop-at.at))) c.word_at.result (sym ((let l = c.loop-at in c.fits.ensures ∙ ap (fits (placed c.word_at-width.result c.word_at-height.result c.word_at-paints.result l.segments l.faces)) (rest_whole c.args.b.now c.loop-at.at))) ∙ c.if-not-fits.false) ((c.word_at.ensures ∙ ap (λ t. word_at t 0) (rest_whole c.args.b.now c.loop-at.at)))), c.well_formed)
+overflow_add-at-in-loop-at c =
+    let b = c.args.b.now in
+    let l = c.loop-at in
+    omega (arith, next_room b (place_of l.place) l.at l.invariant.2 (omega arith) _ (rest_whole b l.at) c.word_at.result c.word_at.ensures (sym c.fits.ensures ∙ c.if-not-fits.false), c.well_formed)
 
-pub segments_after-segments-requires : goal.segments_after-segments-requires
-segments_after-segments-requires c = omega (arith, c.loop-at.invariant.1, (let a = c.args in let l = c.loop-at in next_room a.b.now c.word_at-width.result c.word_at-height.result c.word_at-paints.result l.segments l.faces l.at l.invariant.2 (omega arith) c.kind-k.result ((c.kind-k.ensures ∙ ap kind_of (rest_whole c.args.b.now c.loop-at.at))) c.word_at.result (sym ((let l = c.loop-at in c.fits.ensures ∙ ap (fits (placed c.word_at-width.result c.word_at-height.result c.word_at-paints.result l.segments l.faces)) (rest_whole c.args.b.now c.loop-at.at))) ∙ c.if-not-fits.false) ((c.word_at.ensures ∙ ap (λ t. word_at t 0) (rest_whole c.args.b.now c.loop-at.at)))), c.well_formed)
+pub pass-requires : goal.pass-requires
+pass-requires c =
+    let b = c.args.b.now in
+    let l = c.loop-at in
+    let r = next_room b (place_of l.place) l.at l.invariant.2 (omega arith) _ (rest_whole b l.at) c.word_at.result c.word_at.ensures (sym c.fits.ensures ∙ c.if-not-fits.false) in
+    omega (arith, c.well_formed, l.invariant.1)
 
 pub loop-at-smaller : goal.loop-at-smaller
-loop-at-smaller c = omega (arith, (let a = c.args in let l = c.loop-at in next_room a.b.now c.word_at-width.result c.word_at-height.result c.word_at-paints.result l.segments l.faces l.at l.invariant.2 (omega arith) c.kind-k.result ((c.kind-k.ensures ∙ ap kind_of (rest_whole c.args.b.now c.loop-at.at))) c.word_at.result (sym ((let l = c.loop-at in c.fits.ensures ∙ ap (fits (placed c.word_at-width.result c.word_at-height.result c.word_at-paints.result l.segments l.faces)) (rest_whole c.args.b.now c.loop-at.at))) ∙ c.if-not-fits.false) ((c.word_at.ensures ∙ ap (λ t. word_at t 0) (rest_whole c.args.b.now c.loop-at.at)))))
+loop-at-smaller c =
+    let b = c.args.b.now in
+    let l = c.loop-at in
+    let r = next_room b (place_of l.place) l.at l.invariant.2 (omega arith) _ (rest_whole b l.at) c.word_at.result c.word_at.ensures (sym c.fits.ensures ∙ c.if-not-fits.false) in
+    omega arith
 
 pub loop-at-preserved : goal.loop-at-preserved
 loop-at-preserved c =
-    let a = c.args in
-    let l = c.loop-at in (
-      (let a = c.args in let l = c.loop-at in next_room a.b.now c.word_at-width.result c.word_at-height.result c.word_at-paints.result l.segments l.faces l.at l.invariant.2 (omega arith) c.kind-k.result ((c.kind-k.ensures ∙ ap kind_of (rest_whole c.args.b.now c.loop-at.at))) c.word_at.result (sym ((let l = c.loop-at in c.fits.ensures ∙ ap (fits (placed c.word_at-width.result c.word_at-height.result c.word_at-paints.result l.segments l.faces)) (rest_whole c.args.b.now c.loop-at.at))) ∙ c.if-not-fits.false) ((c.word_at.ensures ∙ ap (λ t. word_at t 0) (rest_whole c.args.b.now c.loop-at.at)))),
-      omega (arith, l.invariant.1, c.segments_after-segments.ensures.1),
-      from_next a.b.now c.word_at-width.result c.word_at-height.result c.word_at-paints.result l.segments l.faces l.at l.invariant.2 (omega arith) c.kind-k.result ((c.kind-k.ensures ∙ ap kind_of (rest_whole c.args.b.now c.loop-at.at)))
-          c.word_at.result c.segments_after-segments.result c.faces_after-faces.result (sym ((let l = c.loop-at in c.fits.ensures ∙ ap (fits (placed c.word_at-width.result c.word_at-height.result c.word_at-paints.result l.segments l.faces)) (rest_whole c.args.b.now c.loop-at.at))) ∙ c.if-not-fits.false) ((c.word_at.ensures ∙ ap (λ t. word_at t 0) (rest_whole c.args.b.now c.loop-at.at))) c.segments_after-segments.ensures.0 c.faces_after-faces.ensures,
+    let b = c.args.b.now in
+    let l = c.loop-at in
+    let g = sym c.fits.ensures ∙ c.if-not-fits.false in (
+      next_room b (place_of l.place) l.at l.invariant.2 (omega arith) _ (rest_whole b l.at) c.word_at.result c.word_at.ensures g,
+      omega (arith, l.invariant.1, c.pass.ensures.1),
+      from_next b (place_of l.place) l.at l.invariant.2 (omega arith) _ (rest_whole b l.at) c.word_at.result c.word_at.ensures g c.kind_number-k.result _ c.kind_number-k.ensures c.pass.ensures.0,
     )
 
 pub returns : goal.returns
-returns c =
-    let a = c.args in
-    let l = c.loop-at in
-    sym (from_over a.b.now c.word_at-width.result c.word_at-height.result c.word_at-paints.result l.segments l.faces l.at l.invariant.2 (omega arith))
+returns c = let l = c.loop-at in sym (from_over c.args.b.now (place_of l.place) l.at l.invariant.2 (omega arith))

@@ -1,5 +1,5 @@
--- The loop of `salvage::points_fit`: what it keeps and its measure.
-use Prim.Native.Nat.{◌-◌, ◌*◌, ◌≤◌}
+-- The loop of `salvage::points_fit`: what it keeps.
+use Prim.Native.Nat.{◌*◌}
 use mathlib.Core.Path.{◌≡◌}
 use lib.ListN.{drop}
 use Rattle.jobfile.specs.Entries.{words_of, pairs}
@@ -8,7 +8,4 @@ use Rattle.jobs.proofs.Bodies.{follows}
 use Rattle.jobs.proofs.salvage.points_fit.Given as goal
 
 abbrev pub invariant-loop-i : goal.invariant-loop-i
-invariant-loop-i l = (l.i ≤ l.n) × (points_fit l.width l.height (pairs (words_of l.body)) ≡ follows l.width l.height (l.x, l.y) (pairs (drop (2 * l.i) (words_of l.body))))
-
-abbrev pub decreases-loop-i : goal.decreases-loop-i
-decreases-loop-i l = l.n - l.i
+invariant-loop-i l = points_fit l.width l.height (pairs (words_of l.body)) ≡ follows l.width l.height l.last (pairs (drop (2 * l.i) (words_of l.body)))

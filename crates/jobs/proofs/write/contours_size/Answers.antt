@@ -10,17 +10,17 @@ use Rattle.jobs.proofs.write.contours_size.Goals as goal
 
 pub loop-i-init : goal.loop-i-init
 unfolding pieces flat upto
-loop-i-init c = (omega arith, omega arith, λ rs. refl)
+loop-i-init c = (omega arith, λ rs. refl)
 
 pub loop-i-preserved : goal.loop-i-preserved
 loop-i-preserved c =
     let a = c.args in
     let l = c.loop-i in
-    (omega arith, omega arith, λ rs. contours_more a.contours.now rs l.i a.first (a.first + l.i) c.get-c.result l.t refl c.get-c.ensures (l.invariant.2 rs))
+    (omega arith, λ rs. contours_more a.contours.now rs l.i a.first (a.first + l.i) c.get-c.result l.t refl c.get-c.ensures (l.invariant.1 rs))
 
 pub returns : goal.returns
 returns c =
     let a = c.args in
     let l = c.loop-i in
     let e : l.i ≡ a.n = omega arith in
-    (l.invariant.1, λ rs. l.invariant.2 rs ∙ ap (λ k. length (pieces (stored_contour a.contours.now rs) k a.first) % 4294967296) e)
+    (l.invariant.0, λ rs. l.invariant.1 rs ∙ ap (λ k. length (pieces (stored_contour a.contours.now rs) k a.first) % 4294967296) e)

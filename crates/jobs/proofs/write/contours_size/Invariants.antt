@@ -1,5 +1,5 @@
--- The loop of `write::contours_size`: what it keeps and its measure.
-use Prim.Native.Nat.{ℕ, ◌-◌, ◌%◌, ◌<◌, ◌≤◌}
+-- The loop of `write::contours_size`: what it keeps.
+use Prim.Native.Nat.{ℕ, ◌%◌, ◌<◌}
 use mathlib.Core.Path.{◌≡◌}
 use mathlib.Core.List.{List}
 use lib.ListN.{length}
@@ -7,7 +7,4 @@ use Rattle.jobs.specs.Stored.{pieces, stored_contour}
 use Rattle.jobs.proofs.write.contours_size.Given as goal
 
 abbrev pub invariant-loop-i : goal.invariant-loop-i
-invariant-loop-i l = (l.i ≤ l.n) × (l.t < 4294967296) × ((rs : List ℕ) → l.t ≡ length (pieces (stored_contour l.contours rs) l.i l.first) % 4294967296)
-
-abbrev pub decreases-loop-i : goal.decreases-loop-i
-decreases-loop-i l = l.n - l.i
+invariant-loop-i l = (l.t < 4294967296) × ((rs : List ℕ) → l.t ≡ length (pieces (stored_contour l.contours rs) l.i l.first) % 4294967296)

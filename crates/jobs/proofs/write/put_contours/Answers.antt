@@ -6,7 +6,7 @@ use Rattle.jobs.proofs.Putting.{put_long, partly_none, partly_more, partly_all}
 use Rattle.jobs.proofs.write.put_contours.Goals as goal
 
 pub loop-i-init : goal.loop-i-init
-loop-i-init c = let a = c.args in partly_none (λ k. word_bytes (stored_contour a.contours.now a.references.now k)) a.n a.first a.out.now a.at c.requires
+loop-i-init c = let a = c.args in partly_none (λ k. word_bytes (stored_contour a.from.contours.now a.from.references.now k)) a.n a.first a.out.now a.at c.requires
 
 pub put_contour-q-requires : goal.put_contour-q-requires
 put_contour-q-requires c = (c.loop-i.invariant.there.within, omega arith)

@@ -6,7 +6,7 @@ use Rattle.jobs.proofs.Putting.{put_long, partly_none, partly_more, partly_all}
 use Rattle.jobs.proofs.write.put_faces.Goals as goal
 
 pub loop-i-init : goal.loop-i-init
-loop-i-init c = let a = c.args in partly_none (λ k. bytes_of (stored_face a.faces.now a.contours.now a.references.now k)) a.n 0 a.out.now a.at c.requires
+loop-i-init c = let a = c.args in partly_none (λ k. bytes_of (stored_face a.from.faces.now a.from.contours.now a.from.references.now k)) a.n 0 a.out.now a.at c.requires
 
 pub put_face-q-requires : goal.put_face-q-requires
 put_face-q-requires c = c.loop-i.invariant.there.within

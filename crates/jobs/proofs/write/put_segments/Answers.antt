@@ -6,7 +6,7 @@ use Rattle.jobs.proofs.Putting.{put_long, partly_none, partly_more, partly_all}
 use Rattle.jobs.proofs.write.put_segments.Goals as goal
 
 pub loop-i-init : goal.loop-i-init
-loop-i-init c = let a = c.args in partly_none (λ k. bytes_of (stored_segment a.segments.now a.points.now k)) a.n 0 a.out.now a.at c.requires
+loop-i-init c = let a = c.args in partly_none (λ k. bytes_of (stored_segment a.from.segments.now a.from.points.now k)) a.n 0 a.out.now a.at c.requires
 
 pub put_segment-q-requires : goal.put_segment-q-requires
 put_segment-q-requires c = c.loop-i.invariant.there.within

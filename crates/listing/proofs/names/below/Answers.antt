@@ -1,18 +1,11 @@
 -- `names::below` meets its contract.
-use native.Mathlib.Omega.{arith}
-use Rattle.listing.proofs.Naming.{wide, up, down, found}
+use Rattle.std.proofs.Common.{rules}
+use Rattle.std.proofs.lemmas.List.Sorted.{IsPartitionPoint-from_clause}
+use Rattle.listing.proofs.Naming.{is_below, parted, found}
 use Rattle.listing.proofs.names.below.Goals as goal
 
-pub loop-lo-init : goal.loop-lo-init
-loop-lo-init c = wide
-
-pub loop-lo-preserved-then-get-v : goal.loop-lo-preserved-then-get-v
-loop-lo-preserved-then-get-v c =
-    up c.requires c.loop-lo.invariant _ (omega (arith, c.loop-lo-test.true)) (rw (c.get.ensures, c.at-p.ensures) at c.if-get-v.true)
-
-pub loop-lo-preserved : goal.loop-lo-preserved
-loop-lo-preserved c =
-    down c.requires c.loop-lo.invariant _ (omega (arith, c.loop-lo-test.true)) (omega arith) (rw (c.get.ensures, c.at-p.ensures) at c.if-get-v.false)
-
 pub returns : goal.returns
-returns c = found c.loop-lo.invariant c.loop-lo-test.false
+returns c =
+    let a = c.args in
+    let e = c.partition_point.ensures in
+    found a.v c.requires e.bound (IsPartitionPoint-from_clause (is_below a.v c.requires) _ _ e.partitioned (parted a.v c.requires) (λ x r q k. search rules))

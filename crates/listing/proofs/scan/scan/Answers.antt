@@ -2,19 +2,20 @@
 use Prim.Native.Nat.{ℕ, suc}
 use mathlib.Core.Path.{◌≡◌, subst}
 use native.Mathlib.Omega.{arith}
-use Rattle.rules.specs.Picture.{E, dart}
+use Rattle.rules.specs.Picture.{dart}
+use Rattle.rules.specs.declared.Dir.TheVariants.{E}
 use Rattle.listing.specs.Finding.{Finds}
 use Rattle.listing.proofs.scan.scan.Goals as goal
 
 pub loop-y-init : goal.loop-y-init
-loop-y-init c = (omega arith, λ names work₀ r f. f)
+loop-y-init c = λ names work₀ r f. f
 
 pub loop-y-preserved : goal.loop-y-preserved
-loop-y-preserved c = (omega (arith, c.loop-y-test.true), λ names work₀ r f. c.scan_row-n.ensures names work₀ r (c.loop-y.invariant.1 names work₀ r f))
+loop-y-preserved c = λ names work₀ r f. c.scan_row-n.ensures names work₀ r (c.loop-y.invariant names work₀ r f)
 
 pub returns : goal.returns
 returns c =
     let a = c.args in
     let l = c.loop-y in
-    let e : l.y ≡ suc a.s.height = omega (arith, l.invariant.0, c.loop-y-test.false) in
-    subst (λ (y : ℕ). Finds a.s a.labels.now (dart 0 0 E) 0 a.work.now (dart 0 y E) l.n l.work) e l.invariant.1
+    let e : l.y ≡ suc a.s.height = omega arith in
+    subst (λ (y : ℕ). Finds a.s a.labels.now (dart 0 0 E) 0 a.work.now (dart 0 y E) l.n l.work) e l.invariant

@@ -8,12 +8,12 @@ use Rattle.listing.proofs.write.write_piece.Goals as goal
 
 pub loop-k-init : goal.loop-k-init
 loop-k-init c =
-    (omega (arith, c.get-k.type_inv), rw (c.get-k.ensures, c.plane-plane.ensures.0) (nothing c.requires.fact_1 c.requires.fact_2))
+    (omega (arith, c.get-k.type_inv), rw (c.get-k.ensures, c.plane-plane.ensures.0) (nothing c.requires.strung c.requires.low))
 
 pub write_contour-end-requires : goal.write_contour-end-requires
 write_contour-end-requires c =
     let started : c.decode-w.result ≡ start_in c.args.s c.args.work.now (c.loop-k.k - 1) = c.decode-w.ensures ∙ rw (c.get.ensures, c.plane-plane.ensures.0) in
-    record { fact_1 = rw (started, c.get-region.ensures) (begins c.loop-k.invariant.1 c.loop-k-test.true); fact_2 = end_low c.loop-k.invariant.1 }
+    record { starts = rw (started, c.get-region.ensures) (begins c.loop-k.invariant.1 c.loop-k-test.true); low = end_low c.loop-k.invariant.1 }
 
 pub loop-k-smaller : goal.loop-k-smaller
 loop-k-smaller c =
@@ -27,4 +27,4 @@ loop-k-preserved c =
 
 pub returns : goal.returns
 returns c =
-    is_over_lem c.loop-k.invariant.1 (λ h. let z = c.loop-k-test.false in omega (arith, z)) (rw c.get-region.ensures at c.put2.ensures)
+    is_over_lem c.loop-k.invariant.1 (λ h. let z = c.loop-k-test.false in omega (arith, z)) (rw c.get-region.ensures at c.put_all.ensures)

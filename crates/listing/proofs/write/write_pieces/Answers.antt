@@ -11,7 +11,7 @@ use Rattle.listing.proofs.write.write_pieces.Goals as goal
 
 pub loop-i-init : goal.loop-i-init
 unfolding flat
-loop-i-init c = (omega arith, refl, refl)
+loop-i-init c = (refl, refl)
 
 pub write_piece-at-requires : goal.write_piece-at-requires
 write_piece-at-requires c =
@@ -19,13 +19,13 @@ write_piece-at-requires c =
     let i = c.loop-i.i in
     let t = c.loop-i-test.true in
     rw (c.get-p.ensures, c.plane-list.ensures.0) (record {
-      fact_1 = c.requires.strung i t;
-      fact_2 = omega (arith, c.loop-i.invariant.2, c.requires.short, pieces_low a.s a.labels.now a.work.now (i + 1) a.n (omega arith), ap length (pieces_more a.s a.labels.now a.work.now i), length-append (pieces_in a.s a.labels.now a.work.now i) (piece_in a.s a.labels.now a.work.now (get_or a.work.now (6 * plane a.s.width a.s.height + i) 0)));
+      strung = c.requires.strung i t;
+      low = omega (arith, c.loop-i.invariant.1, c.requires.short, pieces_low a.s a.labels.now a.work.now (i + 1) a.n (omega arith), ap length (pieces_more a.s a.labels.now a.work.now i), length-append (pieces_in a.s a.labels.now a.work.now i) (piece_in a.s a.labels.now a.work.now (get_or a.work.now (6 * plane a.s.width a.s.height + i) 0)));
     })
 
 pub loop-i-preserved : goal.loop-i-preserved
 loop-i-preserved c =
     let a = c.args in
     let v = c.loop-i.invariant in
-    let r = piece_put a.s a.labels.now a.work.now a.listing.now _ _ _ _ c.loop-i.i v.1 v.2 (rw (c.get-p.ensures, c.plane-list.ensures.0) at c.write_piece-at.ensures) in
-    (omega (arith, c.loop-i-test.true), r.0, r.1)
+    let r = piece_put a.s a.labels.now a.work.now a.listing.now _ _ _ _ c.loop-i.i v.0 v.1 (rw (c.get-p.ensures, c.plane-list.ensures.0) at c.write_piece-at.ensures) in
+    r

@@ -9,4 +9,4 @@ pub returns : goal.returns
 returns c =
     let a = c.args in
     let g = given a.nodes.now a.node_count a.segments.now a.segment_count a.points.now in
-    rw c.put_answer.ensures (c.assemble.ensures ∙ ap (λ s. assemble (map_of s a.labels.now) g a.work.now a.references.now a.contours.now a.faces.now) c.sized-s.ensures)
+    rw c.words.ensures (c.assemble.ensures ∙ ap (λ s. assemble (map_of s a.labels.now) g a.work.now a.references.now a.contours.now a.faces.now) c.sized-s.ensures)

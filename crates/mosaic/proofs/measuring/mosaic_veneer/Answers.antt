@@ -7,4 +7,4 @@ use Rattle.mosaic.proofs.measuring.mosaic_veneer.Goals as goal
 pub returns : goal.returns
 returns c =
     let a = c.args in
-    rw c.put_answer.ensures (c.veneer.ensures ∙ ap (λ s. veneer (map_of s a.labels.now) a.work.now a.sums.now) c.sized-s.ensures)
+    rw c.words.ensures (c.veneer.ensures ∙ ap (λ s. veneer (map_of s a.labels.now) a.work.now a.sums.now) c.sized-s.ensures)

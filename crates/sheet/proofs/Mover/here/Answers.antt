@@ -9,16 +9,16 @@ returns-then-self-at c = let a = c.args in sym (all_done a.segments.now a.points
 pub returns-then-segments-i : goal.returns-then-segments-i
 returns-then-segments-i c = let a = c.args in sym (record_outside a.segments.now a.points.now a.self c.if-self-at.false c.if-segments-i.true)
 
-pub returns-then-at-count : goal.returns-then-at-count
-returns-then-at-count c =
+pub returns-then-count-at : goal.returns-then-count-at
+returns-then-count-at c =
     let a = c.args in
     let made = c.move_at-made.ensures in
-    sym (moves_on a.segments.now a.points.now a.self c.if-self-at.false c.if-segments-i.false (rw c.at-count.ensures at c.if-at-count.true)
-    ∙ same_told (sym (rw (c.at-first.ensures, c.at-count.ensures) at made)) (sym c.moved.ensures))
+    sym (stays_there a.segments.now a.points.now a.self c.if-self-at.false c.if-segments-i.false (rw c.at-count.ensures at c.if-count-at.true)
+    ∙ same_told (sym (rw (c.at-first.ensures, c.at-count.ensures) at made)) refl)
 
 pub returns : goal.returns
 returns c =
     let a = c.args in
     let made = c.move_at-made.ensures in
-    sym (stays_there a.segments.now a.points.now a.self c.if-self-at.false c.if-segments-i.false (rw c.at-count.ensures at c.if-at-count.false)
-    ∙ same_told (sym (rw (c.at-first.ensures, c.at-count.ensures) at made)) refl)
+    sym (moves_on a.segments.now a.points.now a.self c.if-self-at.false c.if-segments-i.false (rw c.at-count.ensures at c.if-count-at.false)
+    ∙ same_told (sym (rw (c.at-first.ensures, c.at-count.ensures) at made)) (sym c.moved.ensures))

@@ -6,12 +6,12 @@ use Rattle.text.proofs.report.count_line.Goals as goal
 pub returns : goal.returns
 unfolding count_line
 returns c =
-    c.word-q.ensures
-    then c.field-q.ensures
-    then c.field-q-2.ensures
-    then c.field-q-3.ensures
-    then c.field-q-4.ensures
-    then c.field-q-5.ensures
-    then c.field-q-6.ensures
-    then c.field-q-7.ensures
+    c.word.ensures
+    then c.field.ensures
+    then c.field-2.ensures
+    then c.field-3.ensures
+    then c.field-4.ensures
+    then c.field-5.ensures
+    then c.field-6.ensures
+    then c.field-7.ensures
     then c.byte.ensures

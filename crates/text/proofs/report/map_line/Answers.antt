@@ -6,8 +6,8 @@ use Rattle.text.proofs.report.map_line.Goals as goal
 pub returns : goal.returns
 unfolding map_line
 returns c =
-    c.word-q.ensures
-    then c.field-q.ensures
-    then c.field-q-2.ensures
-    then c.field-q-3.ensures
+    c.word.ensures
+    then c.field.ensures
+    then c.field-2.ensures
+    then c.field-3.ensures
     then c.byte.ensures

@@ -1,5 +1,0 @@
--- `jobs::salvage::faces_after` meets its contract.
-use Rattle.jobs.proofs.salvage.faces_after.Goals as goal
-
-pub returns : goal.returns
-returns c = rw c.if-faces.false
