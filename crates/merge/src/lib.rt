@@ -3,14 +3,13 @@
 
 pub mod order;
 
-ghost use Rattle.std.specs.Prelude.{◌≡◌, ◌+◌, ◌*◌, ◌/◌, ◌%◌, ◌<◌, ◌≤◌, length, set, eqb, leb, ltb, true, not, ◌&&◌, ◌||◌, [], ◌∷◌};
+ghost use Rattle.std.specs.Prelude.{◌≡◌, ◌+◌, ◌*◌, ◌/◌, ◌%◌, ◌<◌, ◌≤◌, length, set, true, ◌&&◌, ◌||◌};
 ghost use Rattle.merge.specs.Merge.{gap, count, touch, stray, merge};
 ghost use Rattle.merge.specs.Stored.{word, wide, tinted, channel, taken, apart_in, Room, Fits, Takes, Leaf, Found, Due, Visited, pairs_in, Sweeps, Swept, Settles, Rooms, Begun, Tallies, Tallied, Countable, coloured, Coloured};
 ghost use Rattle.merge.specs.Noted.{single, Table, Stands, Noted, right_of, below_of, Beside, Scans, Scanned};
 ghost use Rattle.merge.specs.Leaves.{Named, Gives, Given, Relabels, Relabelled, Spread, Leaves, AllLeft};
 ghost use Rattle.calls.specs.Outcome.{map_of};
 ghost use Rattle.merge.specs.Called.{outcome, asked, Checked, Starts, Started, Ranks, Ranked, Runs, Ran, Merged};
-ghost use Rattle.std.proofs.lemmas.List.Edits.{sets};
 
 use lattice::{OUTSIDE, Size};
 use rules::Refusal;

@@ -71,7 +71,7 @@ impl<'a> CutList<'a> {
     }
 
     // Whether the contour k is an outline.
-    pub fn outlined(&self, k: usize) -> bool
+    pub(crate) fn outlined(&self, k: usize) -> bool
         requires { k < 8589934592 }
         ensures { result ≡ outlined self.now.segments.now self.now.points.now self.now.references.now self.now.contours.now k }
     {

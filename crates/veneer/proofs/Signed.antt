@@ -54,8 +54,3 @@ module _ (a b : ℤ) (p : SFits w64 a) (q : SFits w64 b) (h : nat_abs a + nat_ab
   difference_fits =
       subst (SFits w64) (ap₂ (λ m n. m -ℤ n) (sym (to_z-of_z w64 a p)) (sym (to_z-of_z w64 b q)))
       (small_fits (a -ℤ b) (let k = sum_size a (neg_ℤ b) in let j = minus_size b in omega arith))
-
-  pub difference_is : to_z w64 (of_z w64 (to_z w64 (of_z w64 a) -ℤ to_z w64 (of_z w64 b))) ≡ a -ℤ b
-  difference_is =
-      to_z-of_z w64 (to_z w64 (of_z w64 a) -ℤ to_z w64 (of_z w64 b)) difference_fits
-      ∙ ap₂ (λ m n. m -ℤ n) (to_z-of_z w64 a p) (to_z-of_z w64 b q)

@@ -3,7 +3,7 @@ use Prim.Native.Nat.{suc, ◌+◌, ◌-◌}
 use mathlib.Core.Path.{◌≡◌, ◌∙◌}
 use native.Mathlib.Omega.{arith}
 use Rattle.listing.specs.Writing.{start_in}
-use Rattle.listing.proofs.Threading.{begin, start_flanked, one_more}
+use Rattle.listing.proofs.Threading.{begin, one_more}
 use Rattle.listing.proofs.scan.thread.Goals as goal
 
 pub loop-k-init : goal.loop-k-init

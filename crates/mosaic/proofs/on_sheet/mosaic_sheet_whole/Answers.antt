@@ -1,7 +1,6 @@
 -- `mosaic::on_sheet::mosaic_sheet_whole` meets its contract.
 use Prim.Native.Nat.{ℕ}
 use mathlib.Core.Path.{◌≡◌, ap, ◌∙◌}
-use mathlib.Core.List.{List}
 use native.Mathlib.Omega.{arith}
 use lib.ListN.{get_or}
 use Rattle.std.specs.Prelude.{Result, Ok, Err, IfOk}
@@ -12,7 +11,6 @@ use Rattle.calls.proofs.Refusals.{positive}
 use Rattle.sheet.specs.Call.{whole_on_sheet}
 use Rattle.sheet.specs.Sheet.{sheet_with}
 use Rattle.sheet.specs.Within.{NoMoveLeaves}
-use Rattle.sheet.specs.declared.Sheet.{Sheet}
 use Rattle.mosaic.proofs.on_sheet.mosaic_sheet_whole.Goals as goal
 
 -- what holds of the counts holds of the words of an answer that is no refusal
