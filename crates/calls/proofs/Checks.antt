@@ -9,7 +9,7 @@ use lib.Dec.{ltb}
 use lib.ListN.{length}
 use borrow.Author.Tests.{lt-ltb, le-ltb, eq-eqb, ne_eqb, ltb-false}
 use Rattle.calls.specs.declared.Counts.{Counts}
-use Rattle.calls.specs.Outcome.{answer_with}
+use Rattle.calls.specs.Outcome.{answer_with, refused_if}
 use Rattle.std.specs.Prelude.{Result, Ok, Err}
 use Rattle.std.specs.Result.{result_and}
 use Rattle.rules.specs.declared.Refusal.{Refusal}
@@ -118,6 +118,15 @@ room p store words e = ltb-false (length store / p) (length words / p) e
 -- one check by itself, of a store that holds a records and must hold n
 abbrev pub lone : ℕ → ℕ → ℕ → Check
 lone number a n = record { number = number; hits = ltb a n }
+
+-- its result has its number
+pub lone_hits : (why : Refusal) (a n : ℕ) {r : Result (Unit {0}) Refusal} → r ≡ refused_if (ltb a n) why → number_in r ≡ first_hit (lone (number_of why) a n ∷ [])
+unfolding first_hit
+lone_hits why a n e = ap number_in e ∙ go (ltb a n)
+  where
+    go : (b : Bool) → number_in (refused_if b why) ≡ elim b [ true ↦ number_of why | false ↦ 0 ]
+    go true = refl
+    go false = refl
 
 -- three such checks, one after the other
 module _ {c d e : Check} {cs : List Check} (same : c ∷ d ∷ e ∷ [] ≡ cs) (hc : 0 < c.number) where

@@ -1,5 +1,5 @@
 -- What a call took and what it left, as the rules have them.
-use Rattle.std.specs.Prelude.{ℕ, List, [], ◌∷◌, get_or, Result, Ok, Err}
+use Rattle.std.specs.Prelude.{ℕ, Bool, true, false, List, [], ◌∷◌, get_or, Result, Ok, Err}
 use Rattle.rules.specs.declared.Refusal.{Refusal}
 use Rattle.rules.specs.Calls.{Map, Answer, Outcome}
 use Rattle.rules.specs.Refusals.{number_of}
@@ -49,6 +49,11 @@ unlooked why = record { why = why; counts = record { nodes = 0; segments = 0; po
 abbrev pub answer_of : Result Counts Refused → Answer
 answer_of (Ok c) = answer_with 0 c
 answer_of (Err r) = answer_with (number_of r.why) r.counts
+
+-- a check's result: whatever says why where it hits
+abbrev pub refused_if : {W : Type 0} → Bool → W → Result (Unit {0}) W
+refused_if true why = Err why
+refused_if false why = Ok tt
 
 -- what is answered after the counting, by the check of the stores
 abbrev pub answered_by : Result (Unit {0}) Refusal → Counts → Result Counts Refused

@@ -4,10 +4,10 @@
 ghost use Rattle.std.specs.Prelude.{◌≡◌, [], ◌∷◌, ◌++◌, ◌*◌, ◌≤◌, ltb, length, replicate};
 ghost use Rattle.std.proofs.lemmas.List.Edits.{sets};
 ghost use Rattle.rules.specs.Calls.{map_checks, graph_checks, face_checks, first_hit, graph_list, cut_list, size as size_of, graph as graph_of, whole as whole_of};
-ghost use Rattle.rules.specs.Refusals.{number_of, number_in};
+ghost use Rattle.rules.specs.Refusals.{number_in};
 ghost use Rattle.lattice.specs.Size.{Sides, Map};
 ghost use Rattle.lattice.specs.Planes.{plane};
-ghost use Rattle.calls.specs.Outcome.{map_of, unlooked, graph_counts, with_faces, answer_of, answered_by, outcome, answer_words};
+ghost use Rattle.calls.specs.Outcome.{map_of, unlooked, graph_counts, with_faces, answer_of, answered_by, refused_if, outcome, answer_words};
 ghost use Rattle.calls.specs.Mode.{size_in};
 ghost use Rattle.calls.specs.Counted.{GraphRoom, FaceRoom, AllRoom, most_of};
 ghost use Rattle.calls.specs.Steps.{GraphCounted, CountsGraph, CountsFaces};
@@ -144,9 +144,9 @@ pub fn check_map(s: Size, labels: &[u32], work: &[u32]) -> Result<(), Refusal>
     Ok(())
 }
 
-// Of a store that holds `held` records and must hold `needed`.
-pub fn short(why: Refusal, held: usize, needed: u32) -> Result<(), Refusal>
-    ensures { number_in result ≡ first_hit (record { number = number_of why; hits = ltb held needed } ∷ []) }
+// Of a store that holds `held` records and must hold `needed`: refused with whatever says why, a `Refusal` or a number.
+pub fn short<W: Copy>(why: W, held: usize, needed: u32) -> Result<(), W>
+    ensures { result ≡ refused_if (ltb held needed) why }
 {
     if held < needed as usize {
         return Err(why);
@@ -368,8 +368,9 @@ pub fn whole(
         references.len(),
         contours.len(),
         faces.len(),
-    );
-    if any_fits.is_ok() {
+    )
+    .is_ok();
+    if any_fits {
         return Ok(whole_at_once(
             s, labels, work, nodes, segments, points, references, contours, faces,
         ));

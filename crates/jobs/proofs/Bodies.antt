@@ -2,16 +2,24 @@
 use Prim.Native.Nat.{ℕ, zero, suc, ◌+◌, ◌-◌, ◌*◌, ◌/◌, ◌<◌, ◌≤◌}
 use mathlib.Core.Bool.{Bool, true, false, ◌&&◌}
 use mathlib.Core.Path.{◌≡◌, refl, sym, ap, ◌∙◌}
-use mathlib.Core.List.{List, [], ◌∷◌}
+use mathlib.Core.List.{List, [], ◌∷◌, ◌++◌}
 use native.Mathlib.Omega.{arith}
 use native.Mathlib.Decide.{ℕ_discrete}
 use lib.Dec.{leb, ltb, eqb}
-use lib.ListN.{length, get_or, take, drop, length-drop, drop_of_length-le}
-use lib.Seq.{drop-cons, drop-drop, drop-nil}
+use lib.ListN.{length, get_or, set, take, drop, length-drop, drop_of_length-le}
+use lib.Seq.{paste-suc, drop-cons, drop-drop, drop-nil}
 use borrow.Author.Tests.{eq-eqb, ne_eqb}
 use Rattle.jobfile.specs.Entries.{word_at, words_of, pairs}
 use Rattle.jobfile.specs.Salvage.{unit_apart, chained, on_map, points_fit, all_below, contours_fit}
 use Rattle.jobfile.proofs.Places.{words_step}
+
+-- A COPY, one byte further
+pub copy_more : (d s : List ℕ) (j : ℕ) → j < length d → j < length s → set (take j s ++ drop j d) j (get_or s j 0) ≡ take (j + 1) s ++ drop (j + 1) d
+copy_more d s j h k =
+    let e : 0 + j ≡ j = omega arith in
+    let f : 0 + suc j ≡ j + 1 = omega arith in
+    let g : suc j ≡ j + 1 = omega arith in
+    rw (e, f, g) at (paste-suc d 0 s j 0 (omega arith) k)
 
 -- WORDS
 

@@ -1,5 +1,5 @@
 // The salvage tool: the records of a job file before the first that is cut short or breaks the form.
-ghost use Rattle.std.specs.Prelude.{◌≡◌, true, ◌+◌, ◌*◌, ◌<◌, ◌≤◌, length, get_or, take, drop};
+ghost use Rattle.std.specs.Prelude.{◌≡◌, true, ◌+◌, ◌*◌, ◌<◌, ◌≤◌, ◌++◌, length, get_or, take, drop};
 ghost use Rattle.jobfile.specs.Entries.{words_of, pairs, kind_of, headed as is_headed};
 ghost use Rattle.jobfile.specs.Salvage.{unit_apart, points_fit, segment_fits, all_below, contours_fit, face_fits, kind_fits, fits as record_fits, after, start as start_of, kept as kept_of, salvage as salvage_of};
 ghost use Rattle.jobs.specs.Salvaging.{place_of, kept_as, salvaged_as};
@@ -214,6 +214,16 @@ fn keep(b: &[u8]) -> Kept
 
 // THE TOOL
 
+// The first n bytes, unchanged. The library's copy would ask C for `memmove`, which the archive does without (include/mosaic.h).
+fn copy(from: &[u8], n: usize, to: &mut [u8])
+    requires { (n ≤ length from.now) × (n ≤ length to.old) }
+    ensures { to.new ≡ take n from.now ++ drop n to.old }
+{
+    for k in 0..n {
+        to[k] = from[k];
+    }
+}
+
 // What of a file is kept, and its bytes in `out`. For any bytes and any store: refused when the first record is no whole map record with
 // allowed numbers, then when the store is short.
 pub fn salvage(file: &[u8], out: &mut [u8]) -> Result<Kept, Refusal>
@@ -227,6 +237,6 @@ pub fn salvage(file: &[u8], out: &mut [u8]) -> Result<Kept, Refusal>
     if out.len() < n {
         return Err(Refusal::ShortOutput);
     }
-    out[..n].copy_from_slice(&file[..n]);
+    copy(file, n, out);
     Ok(k)
 }

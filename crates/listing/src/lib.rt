@@ -9,12 +9,21 @@ pub mod starts;
 pub mod write;
 
 ghost use Rattle.std.specs.Prelude.{◌≡◌, [], ◌∷◌};
+ghost use Rattle.rules.specs.Calls.{map_checks, first_hit};
+ghost use Rattle.rules.specs.Refusals.{number_in};
 ghost use Rattle.benches.specs.Listing.{listing as listing_call};
 ghost use Rattle.calls.specs.Outcome.{map_of};
 ghost use Rattle.listing.specs.Listed.{listed};
 
 use lattice::Size;
 use rules::Refusal;
+
+// 1, 2 and 3, as every call that looks at a map asks them.
+fn check(s: Size, labels: &[u32], work: &[u32]) -> Result<(), Refusal>
+    ensures { number_in result ≡ first_hit (map_checks (map_of s labels.now) work.now) }
+{
+    calls::check_map(s, labels, work)
+}
 
 // The listing of the pieces whose labels are named, and its length. A name may stand twice, and may be any word.
 pub fn listing(
@@ -26,7 +35,7 @@ pub fn listing(
 ) -> Result<u32, Refusal>
     ensures { listed result (work.new ∷ words.new ∷ []) ≡ listing_call (map_of s labels.now) work.old named.now words.old }
 {
-    calls::check_map(s, labels, work)?;
+    check(s, labels, work)?;
     let n = prepare::prepare(s, labels, work, named);
     let length = write::write_listing(s, labels, work, words, n);
     calls::clear(s, work);

@@ -12,7 +12,8 @@ fn printed<'a>(input: &[u8], out: &'a mut [u8]) -> &'a [u8] {
 
 fn shows(rt: &impl Print, name: &str, input: &[u8]) -> io::Result<()> {
     println!(rt; "-- {name}")?;
-    rt.write_all(printed(input, &mut [0; 65536]))
+    let mut out = [0; 65536];
+    rt.write_all(printed(input, &mut out))
 }
 
 // MAPS
@@ -130,7 +131,8 @@ fn longest(rt: &impl Print) -> io::Result<()> {
         let behind = if i % 16 == 15 { '\n' } else { ' ' };
         write!(rest, "3{i:09}{behind}")?;
     }
-    let n = printed(&text, &mut [0; 65536]).len();
+    let mut out = [0; 65536];
+    let n = printed(&text, &mut out).len();
     println!(rt; "-- 16 by 16 pixels, no two alike\n{n} bytes")
 }
 

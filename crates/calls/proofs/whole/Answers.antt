@@ -3,7 +3,7 @@ use Prim.Native.Nat.{ℕ, ◌*◌, ◌≤◌}
 use lib.ListN.{length}
 use Rattle.lattice.specs.Planes.{plane}
 use mathlib.Core.List.{List}
-use mathlib.Core.Path.{refl, sym, ap, ◌∙◌}
+use mathlib.Core.Path.{◌≡◌, refl, sym, ap, ◌∙◌}
 use native.Mathlib.Omega.{arith}
 use Rattle.std.proofs.lemmas.Result.{err_from_is_err_and}
 use Rattle.rules.specs.Refusals.{number_in}
@@ -14,7 +14,7 @@ use Rattle.calls.proofs.Refusals.{none_in, some_in}
 use Rattle.calls.proofs.Steps.{traced, graph_left, faces_written, faces_left}
 use Rattle.calls.proofs.Calls.{map_passed, planes_passed, all_roomy, whole_refused, whole_answered}
 use Rattle.calls.proofs.Room.{fullest, most_counted, all_free}
-use Rattle.calls.proofs.whole.Goals.{then-is_ok-2, else-is_ok-2}
+use Rattle.calls.proofs.whole.Goals.{then-is_ok, else-is_ok}
 use Rattle.calls.proofs.whole.Goals as goal
 
 pub returns-in_err-check_map : goal.returns-in_err-check_map
@@ -31,8 +31,8 @@ most-requires c =
 pub whole_at_once-requires-clause-room : goal.whole_at_once-requires-clause-room
 whole_at_once-requires-clause-room c =
     let a = c.args in
-    let room = c.check_all-any_fits.ensures (fullest a.s) a.nodes.now a.segments.now a.points.now a.references.now a.contours.now a.faces.now (ap (answer_with 0) c.most.ensures ∙ most_counted a.s) refl refl refl refl refl refl in
-    let none = none_in c.check_all-any_fits.result (sym c.is_ok.ensures.value ∙ c.if-is_ok.true) in
+    let room = c.check_all.ensures (fullest a.s) a.nodes.now a.segments.now a.points.now a.references.now a.contours.now a.faces.now (ap (answer_with 0) c.most.ensures ∙ most_counted a.s) refl refl refl refl refl refl in
+    let none : number_in c.check_all.result ≡ 0 = grind (arith, none_in) in
     all_free a.s a.labels.now (omega (arith, c.well_formed)) a.nodes.now a.segments.now a.points.now a.references.now a.contours.now a.faces.now (sym room ∙ none)
 
 pub count_graph-c-requires : goal.count_graph-c-requires
@@ -62,7 +62,7 @@ assemble-requires c =
     let planes : 8 * plane a.s.width a.s.height ≤ length c.count_faces-counts.new.work = omega (arith, planes_passed a.s a.labels.now a.work.now z, c.count_graph-c.ensures.1.long, k.kept.long) in
     record {
       map = map;
-      stands = record { ss = _; standing = (traced map k planes (none_in room.result (sym c.is_ok-2.ensures.value ∙ c.if-is_ok-2.true)) roomy.0 c.trace.ensures).1 };
+      stands = record { ss = _; standing = (traced map k planes (none_in room.result (sym c.is_ok.ensures.value ∙ c.if-is_ok.true)) roomy.0 c.trace.ensures).1 };
     }
 
 pub clear-requires : goal.clear-requires
@@ -70,7 +70,7 @@ clear-requires c =
     let a = c.args in
     let z = sym c.in_ok-check_map.ensures in
     let map = map_passed a.s a.labels.now a.work.now z in
-    (map.wide, map.high, omega (arith, planes_passed a.s a.labels.now a.work.now z, c.count_graph-c.ensures.1.long, c.count_faces-counts.ensures.kept.long, c.if-is_ok-2.auto.work))
+    (map.wide, map.high, omega (arith, planes_passed a.s a.labels.now a.work.now z, c.count_graph-c.ensures.1.long, c.count_faces-counts.ensures.kept.long, c.if-is_ok.auto.work))
 
 pub returns : goal.returns
 returns c =
@@ -79,18 +79,18 @@ returns c =
     let k = c.count_faces-counts.ensures in
     let room = c.check_all-room in
     let number = room.ensures (cut_list (map_of a.s a.labels.now)) a.nodes.now a.segments.now a.points.now a.references.now a.contours.now a.faces.now k.counts refl refl refl refl refl refl in
-    let j = c.if-is_ok-2 in
+    let j = c.if-is_ok in
     let written : (work : List ℕ) × GraphWritten a.s a.labels.now (number_in room.result) c.count_faces-counts.new.work a.nodes.now a.segments.now a.points.now work j.nodes j.segments j.points
     × FacesWritten a.s a.labels.now (number_in room.result) work a.references.now a.contours.now a.faces.now j.work j.references j.contours j.faces =
     elim j.branch [
-      | then-is_ok-2 w ↦
+      | then-is_ok w ↦
           let roomy = all_roomy a.s a.labels.now a.nodes.now a.segments.now a.points.now a.references.now a.contours.now a.faces.now _ number in
-          let ok = none_in room.result (sym c.is_ok-2.ensures.value ∙ w.if-is_ok-2.true) in
+          let ok = none_in room.result (sym c.is_ok.ensures.value ∙ w.if-is_ok.true) in
           let planes : 8 * plane a.s.width a.s.height ≤ length c.count_faces-counts.new.work = omega (arith, planes_passed a.s a.labels.now a.work.now z, c.count_graph-c.ensures.1.long, k.kept.long) in
           let t = traced (map_passed a.s a.labels.now a.work.now z) k planes ok roomy.0 w.trace.ensures in
           rw (w.work-is, w.nodes-is, w.segments-is, w.points-is, w.references-is, w.contours-is, w.faces-is) (_, t.0, faces_written ok roomy.1 (w.assemble.ensures _ t.1))
-      | else-is_ok-2 w ↦
-          let bad = some_in room.result (sym c.is_ok-2.ensures.value ∙ w.if-is_ok-2.false) in
+      | else-is_ok w ↦
+          let bad = some_in room.result (sym c.is_ok.ensures.value ∙ w.if-is_ok.false) in
           rw (w.work-is, w.nodes-is, w.segments-is, w.points-is, w.references-is, w.contours-is, w.faces-is) (_, graph_left bad, faces_left bad)
     ]
     in
