@@ -5,15 +5,11 @@ use std::io;
 use std::io::Write;
 
 // What is printed for a text.
-fn printed<'a>(input: &[u8], out: &'a mut [u8]) -> &'a [u8] {
-    let n = text::textmap(input, out);
-    &out[..n]
-}
-
 fn shows(rt: &impl Print, name: &str, input: &[u8]) -> io::Result<()> {
+    let mut out = [0u8; 65536];
+    let n = text::textmap(input, &mut out);
     println!(rt; "-- {name}")?;
-    let mut out = [0; 65536];
-    rt.write_all(printed(input, &mut out))
+    rt.write_all(&out[..n])
 }
 
 // MAPS
@@ -131,8 +127,8 @@ fn longest(rt: &impl Print) -> io::Result<()> {
         let behind = if i % 16 == 15 { '\n' } else { ' ' };
         write!(rest, "3{i:09}{behind}")?;
     }
-    let mut out = [0; 65536];
-    let n = printed(&text, &mut out).len();
+    let mut out = [0u8; 65536];
+    let n = text::textmap(&text, &mut out);
     println!(rt; "-- 16 by 16 pixels, no two alike\n{n} bytes")
 }
 

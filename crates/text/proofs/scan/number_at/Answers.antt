@@ -11,12 +11,12 @@ returns-in_err-b c =
     let a = c.args in
     rw c.from_residual.ensures (ap (read_number a.most a.stop) (drop_of_length-le a.text.now h.3) ∙ number_nil a.most a.stop c.requires.1)
 
-pub returns-then-b-eq48 : goal.returns-then-b-eq48
-returns-then-b-eq48 c =
+pub returns-then-zero : goal.returns-then-zero
+returns-then-zero c =
     let h = c.in_ok-b.ensures.lookup.3 in
     let a = c.args in
     subst (λ (r : Read). FieldIs a.text.now r c.ended_at.result)
-    (sym (ap (read_number a.most a.stop) (byte_first a.text.now a.at 48 h.0 (sym c.if-b-eq48.true ∙ h.1 0)) ∙ number_zero a.most a.stop c.requires.1 _))
+    (sym (ap (read_number a.most a.stop) (byte_first a.text.now a.at 48 h.0 (sym c.if-zero.true ∙ h.1 0)) ∙ number_zero a.most a.stop c.requires.1 _))
     c.ended_at.ensures
 
 pub returns-then-not-is_ascii_digit : goal.returns-then-not-is_ascii_digit
@@ -31,5 +31,5 @@ returns c =
     let a = c.args in
     let d = c.if-not-is_ascii_digit.ensures.cases in
     subst (λ (r : Read). FieldIs a.text.now r c.digits_at.result)
-    (sym (ap (read_number a.most a.stop) (byte_first a.text.now a.at _ h.0 (h.1 0)) ∙ number_one a.most a.stop c.requires.1 _ _ (omega (arith, d.0, c.if-b-eq48.false)) d.1))
+    (sym (ap (read_number a.most a.stop) (byte_first a.text.now a.at _ h.0 (h.1 0)) ∙ number_one a.most a.stop c.requires.1 _ _ (omega (arith, d.0, c.if-zero.false)) d.1))
     (rw c.from.ensures at c.digits_at.ensures)
