@@ -214,7 +214,8 @@ fn keep(b: &[u8]) -> Kept
 
 // THE TOOL
 
-// The first n bytes, unchanged. The library's copy would ask C for `memmove`, which the archive does without (include/mosaic.h).
+// The first n bytes, unchanged.
+// Kept, point 4: the library's copy asks C for `memmove`, which the archive does without (include/mosaic.h).
 fn copy(from: &[u8], n: usize, to: &mut [u8])
     requires { (n ≤ length from.now) × (n ≤ length to.old) }
     ensures { to.new ≡ take n from.now ++ drop n to.old }
