@@ -41,10 +41,6 @@ use Rattle.assemble.proofs.Points.{step_is, first_x, first_y, second_x, second_y
 pub read_number : (d : Dir) → dir (code d % 4) ≡ d
 read_number d = by_dir (λ d. dir (code d % 4) ≡ d) refl refl refl refl d
 
--- and the number of the way back
-pub back_number : (d : Dir) → (code d % 4 + 2 * 1) % 4 ≡ code (back_of d)
-back_number d = by_dir (λ d. (code d % 4 + 2 * 1) % 4 ≡ code (back_of d)) refl refl refl refl d
-
 pub out_word_lem : (ss : List (List Dart)) (x y : ℕ) (d : Dir) → get_or (node_record ss (x, y)) (2 + code d) 0 ≡ out_entry ss (dart x y d)
 unfolding node_record
 out_word_lem ss x y N = refl

@@ -119,10 +119,10 @@ room p store words e = ltb-false (length store / p) (length words / p) e
 abbrev pub lone : ℕ → ℕ → ℕ → Check
 lone number a n = record { number = number; hits = ltb a n }
 
--- its result has its number
-pub lone_hits : (why : Refusal) (a n : ℕ) {r : Result (Unit {0}) Refusal} → r ≡ refused_if (ltb a n) why → number_in r ≡ first_hit (lone (number_of why) a n ∷ [])
+-- the number of its result
+pub lone_number : (why : Refusal) (a n : ℕ) {r : Result (Unit {0}) Refusal} → r ≡ refused_if (ltb a n) why → number_in r ≡ first_hit (lone (number_of why) a n ∷ [])
 unfolding first_hit
-lone_hits why a n e = ap number_in e ∙ go (ltb a n)
+lone_number why a n e = ap number_in e ∙ go (ltb a n)
   where
     go : (b : Bool) → number_in (refused_if b why) ≡ elim b [ true ↦ number_of why | false ↦ 0 ]
     go true = refl

@@ -1,5 +1,4 @@
--- Laws about the first record, words of a body, scanning, and bytes put into a store.
-pub mod Heading
+-- Laws about words of a body, scanning, and bytes put into a store.
 pub mod Bodies
 pub mod Scanning
 pub mod Putting

@@ -129,14 +129,8 @@ by_dir Q a b c e S = c
 by_dir Q a b c e W = e
 
 -- the way back, by number
-pub back_number : (d e : Dir) → eqb (code e) ((code d + 2) % 4) ≡ same_dir e (back_of d)
-back_number d e =
-    by_dir (λ d. eqb (code e) ((code d + 2) % 4) ≡ same_dir e (back_of d))
-    (by_dir (λ e. eqb (code e) 2 ≡ same_dir e S) refl refl refl refl e)
-    (by_dir (λ e. eqb (code e) 3 ≡ same_dir e W) refl refl refl refl e)
-    (by_dir (λ e. eqb (code e) 0 ≡ same_dir e N) refl refl refl refl e)
-    (by_dir (λ e. eqb (code e) 1 ≡ same_dir e E) refl refl refl refl e)
-    d
+pub back_number : (d : Dir) → code (back_of d) ≡ (code d + 2) % 4
+back_number = by_dir (λ d. code (back_of d) ≡ (code d + 2) % 4) refl refl refl refl
 
 -- the corner ahead
 pub edge_corner : (s : Size) (w : Walker) → Edge s w → Corner s (ahead_x (dart_of w)) (ahead_y (dart_of w))

@@ -18,7 +18,7 @@ ghost use Rattle.listing.specs.Listed.{listed};
 use lattice::Size;
 use rules::Refusal;
 
-// 1, 2 and 3, as every call that looks at a map asks them.
+// 1, 2 and 3, as every call that looks at a map asks them: a function of its own, so that one that answers 13 for any of them breaks this clause.
 fn check(s: Size, labels: &[u32], work: &[u32]) -> Result<(), Refusal>
     ensures { number_in result ≡ first_hit (map_checks (map_of s labels.now) work.now) }
 {

@@ -5,13 +5,13 @@ use mathlib.Core.Logic.{◌⊎◌, inl, inr}
 use Prim.Native.Nat.{ℕ, suc, ◌+◌, ◌*◌, ◌/◌, ◌%◌, ◌≤◌, ◌<◌}
 use native.Mathlib.Omega.{arith}
 use native.Mathlib.Decide.{ℕ_discrete}
-use native.Mathlib.Nat.{div-add-mod', suc-mul, mul-add-mod_self_right, mod-eq_of_lt, not-suc-le-zero, mul_comm}
+use native.Mathlib.Nat.{suc-mul, mul-add-mod_self_right, mod-eq_of_lt, not-suc-le-zero, mul_comm}
 use lib.ListN.{length, get_or, set, length-set}
 use lib.Seq.{get_or-set_same, get_or-set_other}
 use Rattle.rules.specs.Picture.{seen, picture, OUTSIDE}
 use Rattle.rules.specs.Face.{label_of}
 use Rattle.rules.proofs.Islands.Joined.{Step, Joined, here, back}
-use Rattle.rules.proofs.Islands.Pixels.{label_of_is, width_pos, column_in, right_column}
+use Rattle.rules.proofs.Islands.Pixels.{label_of_is}
 use Rattle.store.proofs.Writes.{kept_none, kept_then, kept_set}
 use Rattle.face.specs.declared.islands.Plan.{Plan}
 use Rattle.face.specs.Islands.{no_island, area, view, number, Inside, Sizes, Forest, Tied, Met, Over, LeftOf, Above, Hand, Linked, Links}
@@ -142,19 +142,3 @@ row_end w x y h k = let e : y + 1 ≡ suc y = omega arith in rw e (omega (arith,
 
 pub rows_end : (w h y : ℕ) → h ≤ y → y ≤ h → y * w ≡ w * h
 rows_end w h y p q = let e : y ≡ h = omega arith in rw e (mul_comm h w)
-
--- the column of the next pixel
-pub next_column : {w p x r : ℕ} (h : ℕ) → p < w * h → x ≡ p % w → (suc x ≡ w → r ≡ 0) → ((suc x ≡ w → ⊥) → r ≡ suc x) → r ≡ suc p % w
-next_column {w} {p} {x} {r} h l e wraps goes =
-    elim (ℕ_discrete (suc x) w) [
-      | yes z ↦ wraps z ∙ sym (ends z)
-      | no d ↦ goes d ∙ ap suc e ∙ sym (goes_on d)
-    ]
-  where
-    ends : suc x ≡ w → suc p % w ≡ 0
-    ends z =
-        let is : suc p ≡ suc (p / w) * w + 0 = omega (arith, div-add-mod' p w, suc-mul (p / w) w, e, z) in
-        ap (λ (i : ℕ). i % w) is ∙ mul-add-mod_self_right (suc (p / w)) w 0 ∙ mod-eq_of_lt (width_pos w h p l)
-
-    goes_on : (suc x ≡ w → ⊥) → suc p % w ≡ suc (p % w)
-    goes_on d = let is : p + 1 ≡ suc p = omega arith in rw is at (right_column w h p l (omega (arith, column_in w h p l, e, d)))
